@@ -1,0 +1,88 @@
+#!/bin/sh
+# Builds the programs of bench/ against static archives of the proved code.
+# usage: bench/build.sh [ARCHIVE]
+# ARCHIVE: default target/staticlib/libprobe.a at the repository's top, as `rt staticlib probe` writes it; an archive of another crate
+# is looked for beside it. The programs go to $BENCH_OUT, default target/bench at the repository's top; bench/run.sh runs them.
+set -eu
+
+here=$(cd "$(dirname "$0")" && pwd -P)
+top=$(dirname "$here")
+archive=${1:-$top/target/staticlib/libprobe.a}
+out=${BENCH_OUT:-$top/target/bench}
+strict='-std=c11 -Wall -Wextra -Wpedantic -Werror'
+
+# The programs, one a line: its name, and the crate whose archive it is linked with, or `alone` for one that is built for this very
+# machine with the sanitizers.
+programs='
+make_harbour alone
+sanitize_frame alone
+sanitize_read alone
+sanitize_judge alone
+compare_frame probe
+speed_frame probe
+'
+
+# What every program may use: the reader, the generator, and what the programs share.
+reader='reader_frame reader_formats reader_table reader_describe reader_layout reader_values reader_names reader_read
+    reader_topology'
+generator='generate_frame generate_broken generate_large generate_formats generate_chart generate_describe generate_scene
+    generate_update faults_describe faults_layout faults_values faults_names generate_read generate_damage generate_hostile
+    generate_judge generate_heavy faults_topology'
+shared='buffer areas tally speed cases_frame cases_read cases_judge'
+
+# Debian packages, fetched only where the compiler is missing.
+need() {
+    compiler=$1
+    shift
+    command -v "$compiler" >/dev/null 2>&1 && return
+    apt-get update </dev/null
+    DEBIAN_FRONTEND=noninteractive apt-get install -y --no-install-recommends "$@" </dev/null
+}
+
+need gcc gcc libc6-dev
+# The archives hold x86-64 code. On Arm the programs around them are made for x86-64 too, and static, so that the emulator needs no loader.
+case $(uname -m) in
+x86_64) cc='gcc' ;;
+aarch64)
+    need x86_64-linux-gnu-gcc gcc-x86-64-linux-gnu libc6-dev-amd64-cross
+    cc='x86_64-linux-gnu-gcc -static' ;;
+*) echo "bench/build.sh: neither x86-64 nor Arm" >&2; exit 2 ;;
+esac
+alone="gcc $strict -O1 -g -fsanitize=address,undefined -fno-sanitize-recover=all"
+linked="$cc $strict -O2"
+
+mkdir -p "$out"
+out=$(cd "$out" && pwd -P)
+archives=$(cd "$(dirname "$archive")" 2>/dev/null && pwd -P) || archives=
+cd "$here"
+
+# compile OBJECTS COMMAND: what the programs share, once for each way of building.
+# shellcheck disable=SC2086
+# (the word lists above are meant to be split)
+compile() {
+    objects=$1
+    shift
+    rm -rf "$objects"
+    mkdir -p "$objects"
+    for name in $reader $generator $shared; do
+        $1 -c "$name.c" -o "$objects/$name.o"
+    done
+}
+
+compile "$out/alone" "$alone"
+compile "$out/linked" "$linked"
+missing=
+for program in $(echo "$programs" | sed -n 's/^\([a-z_0-9]\{1,\}\) \([a-z]\{1,\}\)$/\1:\2/p'); do
+    name=${program%:*}
+    crate=${program#*:}
+    if [ "$crate" = alone ]; then
+        # shellcheck disable=SC2086
+        $alone "$name.c" "$out"/alone/*.o -o "$out/$name"
+    elif [ -f "$archives/lib$crate.a" ]; then
+        # shellcheck disable=SC2086
+        $linked "$name.c" "$out"/linked/*.o "$archives/lib$crate.a" -o "$out/$name"
+    else
+        missing="$missing $name"
+    fi
+done
+[ -z "$missing" ] || { echo "bench/build.sh: not built, their archives are missing beside $archive:$missing" >&2; exit 2; }

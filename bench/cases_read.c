@@ -1,0 +1,176 @@
+#include "cases_read.h"
+
+#include "areas.h"
+#include "generate_read.h"
+#include "tally.h"
+
+#include <inttypes.h>
+#include <stdio.h>
+#include <stdlib.h>
+#include <string.h>
+
+enum { DEFAULT_SEEDS = 6000, ANSWER = 20, WORK_A_RECORD = 16 };
+
+/* ---- the reader in a candidate's shape */
+
+static void put_answer(uint8_t *area, size_t length, const struct answer *answer)
+{
+    const uint32_t words[] = {answer->code, answer->file, answer->record, answer->number, answer->offset};
+    if (length == ANSWER)
+        put_words(area, words, 5);
+}
+
+static uint32_t reader_cell(const uint8_t *cell, size_t length, uint8_t *work, size_t work_length, uint8_t *area, size_t area_length)
+{
+    struct answer answer = reader_read(cell, length, work_length);
+    memset(work, 0, work_length);
+    put_answer(area, area_length, &answer);
+    return answer.code;
+}
+
+static uint32_t reader_both(const uint8_t *cell, size_t cell_length, const uint8_t *update, size_t update_length, uint8_t *work,
+                            size_t work_length, uint8_t *area, size_t area_length)
+{
+    struct answer answer = reader_read_both(cell, cell_length, update, update_length, work_length);
+    memset(work, 0, work_length);
+    put_answer(area, area_length, &answer);
+    return answer.code;
+}
+
+const struct read_candidate read_reader = {reader_cell, reader_both};
+
+/* ---- one call */
+
+struct subject {
+    const struct read_case *made;
+    uint64_t seed;
+    const uint8_t *cell, *update;
+    size_t work_length, answer_length;
+};
+
+/* What document 01 says of this much work, where the generator knows what it says of enough. */
+static struct answer known_answer(const struct read_case *made, size_t work_length)
+{
+    size_t needed = WORK_A_RECORD * made->records;
+    bool framed = made->verdict.code != CODE_LONG && made->verdict.code != CODE_FRAME;
+    return framed && work_length < needed ? (struct answer){.code = CODE_WORK, .number = (uint32_t)needed} : made->verdict;
+}
+
+static bool same_answer(const struct answer *left, const struct answer *right)
+{
+    return left->code == right->code && left->file == right->file && left->record == right->record && left->number == right->number &&
+           left->offset == right->offset;
+}
+
+static void print_answer(const char *who, const struct answer *answer)
+{
+    printf("    %s: code %u, file %u, record %u, number %u, offset %u\n", who, (unsigned)answer->code, (unsigned)answer->file,
+           (unsigned)answer->record, (unsigned)answer->number, (unsigned)answer->offset);
+}
+
+static void report(const struct subject *subject, const char *wrong, const struct answer *reader, uint32_t code, const uint8_t *area)
+{
+    const struct read_case *made = subject->made;
+    printf("DIFFERS: %s; kind '%s', seed %" PRIu64 ", cell of %zu bytes, %s of %zu bytes, work of %zu bytes, answer of %zu bytes\n", wrong,
+           made->kind, subject->seed, made->cell.length, made->both ? "update" : "no update", made->update.length, subject->work_length,
+           subject->answer_length);
+    print_answer("the C reader", reader);
+    if (made->known)
+        print_answer("the generator", &made->verdict);
+    printf("    the candidate returned %u and wrote\n", (unsigned)code);
+    print_bytes(area, subject->answer_length);
+}
+
+/* Runs the candidate once and compares the code, the answer area, the work area and the files with what they must be. */
+static void run_call(struct tally *tally, const struct read_candidate *candidate, const struct subject *subject)
+{
+    const struct read_case *made = subject->made;
+    uint8_t *work = lent_area(subject->work_length), *area = lent_area(subject->answer_length), *expected = lent_area(subject->answer_length);
+    struct answer reader = made->both ? reader_read_both(subject->cell, made->cell.length, subject->update, made->update.length, subject->work_length)
+                                      : reader_read(subject->cell, made->cell.length, subject->work_length);
+    struct answer known = known_answer(made, subject->work_length);
+    put_answer(expected, subject->answer_length, &reader);
+    uint32_t code = made->both ? candidate->both(subject->cell, made->cell.length, subject->update, made->update.length, work,
+                                                 subject->work_length, area, subject->answer_length)
+                               : candidate->cell(subject->cell, made->cell.length, work, subject->work_length, area, subject->answer_length);
+    const char *wrong = NULL;
+    if (made->known && !same_answer(&reader, &known))
+        wrong = "the C reader and the generator";
+    else if (code != reader.code)
+        wrong = "the code";
+    else if (memcmp(area, expected, subject->answer_length) != 0)
+        wrong = "the answer area";
+    else if (!all_are(work, subject->work_length, 0))
+        wrong = "the work area is not zero";
+    else if (!guards_kept(work, subject->work_length) || !guards_kept(area, subject->answer_length))
+        wrong = "bytes beside an area were changed";
+    else if (memcmp(subject->cell, made->cell.bytes, made->cell.length) != 0 ||
+             (made->update.length > 0 && memcmp(subject->update, made->update.bytes, made->update.length) != 0))
+        wrong = "a file was changed";
+    if (wrong != NULL)
+        report(subject, wrong, &reader, code, area);
+    tally_add(tally, made->kind, reader.code, wrong == NULL);
+    lent_free(work);
+    lent_free(area);
+    lent_free(expected);
+}
+
+/* ---- one case: with the work it needs, and with some other length; now and then with an answer area of another length */
+
+static size_t other_work(const struct read_case *made, struct random *random)
+{
+    size_t needed = WORK_A_RECORD * made->records;
+    switch (random_below(random, 6)) {
+    case 0:
+        return 0;
+    case 1:
+        return needed > 0 ? needed - 1 : 0;
+    case 2:
+        return needed + 1;
+    case 3:
+        return needed > 15 ? needed - 15 : 0;
+    case 4:
+        return random_below(random, (uint32_t)needed + 1);
+    default:
+        return needed + random_below(random, 200);
+    }
+}
+
+static void run_case(struct tally *tally, const struct read_candidate *candidate, const struct read_case *made, uint64_t seed)
+{
+    static const size_t other_answers[] = {0, 16, 19, 21, 4, 24};
+    struct random random = {seed};
+    uint8_t *cell = exact_copy(&made->cell), *update = exact_copy(&made->update);
+    struct subject subject = {made, seed, cell, update, WORK_A_RECORD * made->records, ANSWER};
+    run_call(tally, candidate, &subject);
+    subject.work_length = other_work(made, &random);
+    if (random_one_in(&random, 4))
+        subject.answer_length = other_answers[random_below(&random, sizeof other_answers / sizeof other_answers[0])];
+    run_call(tally, candidate, &subject);
+    free(cell);
+    free(update);
+}
+
+/* ---- all cases */
+
+int run_read_cases(const struct read_candidate *candidate, int words, char **word)
+{
+    uint64_t seeds = words > 1 ? strtoull(word[1], NULL, 10) : DEFAULT_SEEDS;
+    uint64_t first = words > 2 ? strtoull(word[2], NULL, 10) : 0;
+    struct tally tally = {0};
+    for (size_t i = 0; i < read_kinds(); i++)
+        tally_list(&tally, read_kind(i));
+    for (size_t i = 0; i < large_cells(); i++)
+        tally_list(&tally, large_cell_name(i));
+    for (uint64_t seed = first; seed - first < seeds; seed++) {
+        struct read_case made = read_case_make(seed);
+        run_case(&tally, candidate, &made, seed);
+        read_case_free(&made);
+    }
+    for (size_t i = 0; i < large_cells(); i++) {
+        struct read_case made = large_cell_make(i);
+        run_case(&tally, candidate, &made, i);
+        read_case_free(&made);
+    }
+    return tally_close(&tally);
+}

@@ -1,0 +1,38 @@
+#!/bin/bash
+# The host tests: C programs, those that look at proved code linked with the archive of the crate
+# `probe`. Builds them, runs each, and adds up what they count; the last line is 'N passed, M failed', and
+# the status is 0 only where nothing failed. Wants `rt`, and the compilers that .ci/run installs.
+#
+# bench/build.sh ARCHIVE compiles the programs, bench/run.sh runs one, and bench/tests.txt names those
+# that are tests, one a line ('#' starts a comment). A test that doesn't end with the line 'N passed, M
+# failed', or that takes over LIMIT seconds, has failed.
+set -u
+if ! cd "$(dirname "$0")/.." || ! . bench/count.sh; then
+    echo '0 passed, 1 failed'
+    exit 1
+fi
+
+limit=${LIMIT:-1200}
+archive=$PWD/target/staticlib/libprobe.a
+export BENCH_OUT=$PWD/target/bench
+
+# ---- build, from nothing
+rm -rf "$BENCH_OUT" "$archive"
+mkdir -p "$BENCH_OUT"
+if ! rt staticlib probe || [ ! -f "$archive" ]; then
+    fault "rt staticlib probe made no $archive"
+    close
+fi
+bench/build.sh "$archive" || fault 'bench/build.sh could not build every program'
+
+# ---- run
+tests=$(sed -e 's/#.*//' -e 's/[[:space:]]//g' -e '/^$/d' bench/tests.txt)
+[ -n "$tests" ] || fault 'bench/tests.txt names no test'
+for name in $tests; do
+    if [ -x "$BENCH_OUT/$name" ]; then
+        counted "host test $name" "$BENCH_OUT/$name.log" timeout "$limit" bench/run.sh "$name"
+    else
+        fault "$name was not built"
+    fi
+done
+close

@@ -1,0 +1,97 @@
+/* The second reader: document 01 read anew in C, with its own code and tables, so that the proved library has something to be compared
+   with and timed against. Framing and formats take no memory of their own and work on the lent bytes in one pass; the calls at the end,
+   which read whole files, take memory in proportion to the records and give it back. */
+#ifndef BENCH_READER_H
+#define BENCH_READER_H
+
+#include <stdbool.h>
+#include <stddef.h>
+#include <stdint.h>
+
+/* ---- "Framing (ISO/IEC 8211)" */
+
+/* Where `good`, the file is `records` good records and nothing after; else `records` good ones stand before the first bad one, whose
+   index it therefore is. */
+struct framing {
+    bool good;
+    size_t records;
+};
+
+/* One record. All places are offsets in the file. */
+struct record {
+    size_t start, end;
+    size_t directory; /* its first entry */
+    size_t fields;    /* the base address */
+    size_t entries;
+    unsigned length_digits, position_digits;
+};
+
+/* One field. The tag is its four bytes as a number, first byte highest; the length counts the closing 1E. */
+struct field {
+    uint32_t tag;
+    size_t start, length;
+};
+
+struct framing reader_frame(const uint8_t *file, size_t length);
+
+/* The record at `start`, and field `index` of it, of a file that reader_frame found good. */
+struct record reader_record(const uint8_t *file, size_t start);
+struct field reader_field(const uint8_t *file, const struct record *record, size_t index);
+
+/* One number over every record's end and every field's tag, start and length, or 0 where the framing is bad (see probe.h). */
+uint64_t reader_fields(const uint8_t *file, size_t length);
+
+/* ---- the descriptive fields of record 0 */
+
+enum { MOST_PRIMITIVES = 32, MOST_LEVELS = 4 };
+
+/* A format list written out: each primitive is its letter's byte + 256 * its size number (0 without one). */
+struct formats {
+    uint32_t count;
+    uint32_t primitive[MOST_PRIMITIVES];
+};
+
+/* Reads a whole format list, from its "(" to its ")" and nothing after. False where it is refused. */
+bool reader_formats(const uint8_t *text, size_t length, struct formats *written);
+
+/* Where the two 1F of a descriptive field stand; `length` counts its closing 1E, which isn't looked at. False where there are no two. */
+struct cut {
+    size_t name_end, labels_end;
+};
+
+bool reader_cut(const uint8_t *field, size_t length, struct cut *cut);
+
+/* ---- whole files */
+
+/* The codes of document 01 that the calls below give. */
+enum code {
+    CODE_DONE = 0,
+    CODE_LONG = 1,
+    CODE_FRAME = 2,
+    CODE_WORK = 3,
+    CODE_DESCRIBED = 4,
+    CODE_LAYOUT = 5,
+    CODE_VALUE = 6,
+    CODE_TWICE = 7,
+    CODE_COUNTS = 8,
+    CODE_SHAPE = 17,
+    CODE_POINTER = 18,
+    CODE_RING = 19,
+};
+
+/* File: 0 none, 1 cell, 2 update. The number is the bytes of work area needed for 3, else 0. The offset is that of request (ii): where in
+   its file the refusal's first wrong byte stands. */
+struct answer {
+    uint32_t code, file, record, number, offset;
+};
+
+/* Codes 1 to 8 for a cell. Only the length of the work area matters: the reader has memory of its own. */
+struct answer reader_read(const uint8_t *cell, size_t length, size_t work_length);
+
+/* Codes 1 to 8 for a cell, and 1, 2, 4 to 7 for an update, in document 01's order; an update of length 0 is badly framed. */
+struct answer reader_read_both(const uint8_t *cell, size_t cell_length, const uint8_t *update, size_t update_length, size_t work_length);
+
+/* Judge: codes 1 to 8 for a cell, then 17 to 19, whose record is the place in held order. */
+struct answer reader_judge(const uint8_t *cell, size_t length, size_t work_length);
+
+#endif

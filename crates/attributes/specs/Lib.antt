@@ -1,0 +1,4 @@
+-- The notions of `attributes`.
+pub mod Attributes
+pub mod Judged
+pub mod Examples

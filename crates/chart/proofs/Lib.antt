@@ -1,0 +1,3 @@
+-- Laws of `chart`.
+pub mod ValueLaws
+pub mod ReadLaws

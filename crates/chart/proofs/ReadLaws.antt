@@ -1,0 +1,159 @@
+-- Laws of the reading of a file's records. Assumes nothing.
+use Prim.Native.Nat.{ℕ, zero, suc, _+_, _-_, _≤_, _<_}
+use mathlib.Core.Bool.{Bool, true, false, not, cond, _&&_, _||_}
+use mathlib.Core.List.{List, [], _∷_}
+use mathlib.Core.Logic.{⊎-elim, _⊎_, inl, inr}
+use mathlib.Core.Path.{_≡_, refl, sym, ap, _∙_}
+use native.Mathlib.Nat.{sub-zero, add-zero}
+use native.Mathlib.Numerals.{add-one}
+use native.Mathlib.Omega.{arith}
+use lib.ListN.{length, take, drop, getD, replicate, length-replicate}
+use lib.Dec.{eqb, leb, ltb}
+use borrow.Author.Tests.{not-true, not-false, eq-eqb, ne-eqb, lt-ltb, le-ltb, eqb-true, eqb-false}
+use Rattle.octets.specs.Number.{byteAt}
+use Rattle.octets.proofs.Cases.{true-or-false, eq-or-ne}
+use Rattle.iso8211.specs.Record.{endOf}
+use Rattle.iso8211.specs.Field.{countAt, fieldAt, FramedAt, FieldIn, RecordIn}
+use Rattle.iso8211.specs.File.{frameOf, recordAt}
+use Rattle.iso8211.specs.declared.field.Field.{Field}
+use Rattle.iso8211.specs.declared.file.Framed.the-variants.{Records}
+use Rattle.iso8211.proofs.Promise.{record-in, at-next, at-first}
+use Rattle.table.specs.Table.{kindOf, FRID}
+use Rattle.attributes.specs.Attributes.{Upto}
+use Rattle.attributes.proofs.StampLaws.{upto-zeros, upto-more}
+use Rattle.described.specs.Described.{describedOf, marksOf}
+use Rattle.described.specs.declared.marks.Described.{Described}
+use Rattle.layout.specs.Layout.{layoutFault}
+use Rattle.layout.specs.Record.{Laid, contentAt}
+use Rattle.layout.proofs.Promise.{laid, laid-dsid, full-dssi, content-length}
+use Rattle.chart.specs.Value.{valueFault}
+use Rattle.chart.specs.Judged.{Full, RecordJudged}
+use Rattle.chart.specs.Read.{refusal, fine, nextStage, isFeature, aallAt, nallAt, passedState, firstState, recordsFault, readFault, Passing}
+use Rattle.chart.specs.declared.read.Refusal.{Refusal}
+use Rattle.chart.specs.declared.read.State.{State}
+
+-- ---- what is known behind a record
+-- is_feature and levels: field j as it is read
+pub feature-is : (s : List ℕ) (at k : ℕ) (f : Field) → f ≡ fieldAt s at 1 → k ≡ kindOf (f .tag) → eqb k 10 ≡ isFeature s at
+unfolding isFeature
+feature-is s at k f e g = rw (g, e)
+
+pub levels-are : (s : List ℕ) (at i a b : ℕ) (f : Field) → f ≡ fieldAt s at 2 → i ≡ f .start → a ≡ byteAt s (i + 1) → b ≡ byteAt s (i + 2) → (a ≡ aallAt s at) × (b ≡ nallAt s at)
+unfolding aallAt nallAt
+levels-are s at i a b f e g x y = (x ∙ ap (λ (k : ℕ). byteAt s (k + 1)) (g ∙ ap (λ (q : Field). q .start) e), y ∙ ap (λ (k : ℕ). byteAt s (k + 2)) (g ∙ ap (λ (q : Field). q .start) e))
+
+-- DSSI lies in the file with its levels
+pub levels-room : {s : List ℕ} {at stage : ℕ} (f : Field) → Passing s at stage → stage ≡ 0 → f ≡ fieldAt s at 2 → f .start + 3 ≤ length s
+levels-room {s} {at} {stage} f p z e =
+    let d = p .dssi z in
+    let three = d .0 in
+    let long = d .1 in
+    let in2 = p .known .fields 2 (omega arith) in
+    let size = content-length s at 2 (p .known) (omega arith) in
+    let within = in2 .within in
+    let fits = p .known .framed .fits in
+    rw e (omega arith)
+
+module _ (update : Bool) (s : List ℕ) (at : ℕ) (st : State) (next : ℕ) (feature : Bool) (is : next ≡ nextStage update (st .stage) feature) (told : feature ≡ isFeature s at) where
+  pub passed-first : (a b : ℕ) → st .stage ≡ 0 → a ≡ aallAt s at → b ≡ nallAt s at → record { stage = next; aall = a; nall = b } ≡ passedState update s at st
+  unfolding passedState
+  passed-first a b z x y = rw (is, told, z, x, y)
+
+  pub passed-later : (st .stage ≡ 0 → ⊥) → record { stage = next; aall = st .aall; nall = st .nall } ≡ passedState update s at st
+  unfolding passedState
+  passed-later z = rw (ne-eqb _ _ z, is, told)
+
+-- ---- records_fault: one law for each way through a turn
+-- the answer from the start is the answer from record k on, and the stamps of the table are those of the records before
+pub record Reading (update : Bool) (marks s : List ℕ) (n : ℕ) (t : List ℕ) (k at : ℕ) (st : State) : Type 0 where
+  pub is : recordsFault (n - 1) update marks s 1 (recordAt s 1) firstState ≡ recordsFault (n - k) update marks s k at st
+  pub upto : Upto t at
+
+pub reading-start : (update : Bool) (marks s : List ℕ) (n : ℕ) (t : List ℕ) (at : ℕ) → at ≡ endOf s 0 → 0 < at → Upto t 0 → Reading update marks s n t 1 at firstState
+reading-start update marks s n t at e past u = record {
+  is = ap (λ (x : ℕ). recordsFault (n - 1) update marks s 1 x firstState) (sym (at-next s 0 0 (sym (at-first s))) ∙ sym e);
+  upto = upto-more u past;
+}
+
+records-layout : (m p : ℕ) (update : Bool) (marks s : List ℕ) (k at : ℕ) (st : State) → m ≡ suc p → (layoutFault update (st .stage) marks s at ≡ 0 → ⊥)
+    → recordsFault m update marks s k at st ≡ refusal 5 k (layoutFault update (st .stage) marks s at)
+unfolding recordsFault
+records-layout m p update marks s k at st e h = rw (e, ne-eqb _ _ h)
+
+records-value : (m p : ℕ) (update : Bool) (marks s : List ℕ) (k at : ℕ) (st : State) → m ≡ suc p → layoutFault update (st .stage) marks s at ≡ 0 → (valueFault update (st .aall) (st .nall) s at ≡ 0 → ⊥)
+    → recordsFault m update marks s k at st ≡ refusal 6 k (valueFault update (st .aall) (st .nall) s at)
+unfolding recordsFault
+records-value m p update marks s k at st e h g = rw (e, eq-eqb _ _ h, ne-eqb _ _ g)
+
+records-next : (m p : ℕ) (update : Bool) (marks s : List ℕ) (k at : ℕ) (st : State) → m ≡ suc p → layoutFault update (st .stage) marks s at ≡ 0 → valueFault update (st .aall) (st .nall) s at ≡ 0
+    → recordsFault m update marks s k at st ≡ recordsFault p update marks s (k + 1) (endOf s at) (passedState update s at st)
+unfolding recordsFault
+records-next m p update marks s k at st e h g = rw (e, eq-eqb _ _ h, eq-eqb _ _ g)
+
+module _ {update : Bool} {marks s : List ℕ} {n : ℕ} {t : List ℕ} {k at : ℕ} {st : State} (so : Reading update marks s n t k at st) (more : k < n) where
+  pub reading-layout : (l : ℕ) (r : Refusal) → l ≡ layoutFault update (st .stage) marks s at → (l ≡ 0 → ⊥) → r ≡ refusal 5 k l → r ≡ recordsFault (n - 1) update marks s 1 (recordAt s 1) firstState
+  reading-layout l r e h q =
+      q ∙ ap (refusal 5 k) e ∙ sym (so .is ∙ records-layout (n - k) (n - (k + 1)) update marks s k at st (omega arith) (λ z. h (e ∙ z)))
+
+  module _ (l : ℕ) (laid-out : l ≡ layoutFault update (st .stage) marks s at) (none : l ≡ 0) {after : List ℕ} {v : ℕ} (judged : RecordJudged update (st .aall) (st .nall) s at t after v) where
+    pub reading-value : (r : Refusal) → (v ≡ 0 → ⊥) → r ≡ refusal 6 k v → r ≡ recordsFault (n - 1) update marks s 1 (recordAt s 1) firstState
+    reading-value r h q =
+        let e = judged .fault (so .upto) in
+        q ∙ ap (refusal 6 k) e ∙ sym (so .is ∙ records-value (n - k) (n - (k + 1)) update marks s k at st (omega arith) (sym laid-out ∙ none) (λ z. h (e ∙ z)))
+
+    pub reading-on : v ≡ 0 → (next : State) (e : ℕ) → next ≡ passedState update s at st → e ≡ endOf s at → Reading update marks s n after (k + 1) e next
+    reading-on z next e is end = record {
+      is = so .is ∙ records-next (n - k) (n - (k + 1)) update marks s k at st (omega arith) (sym laid-out ∙ none) (sym (judged .fault (so .upto)) ∙ z)
+          ∙ ap (λ (x : ℕ). recordsFault (n - (k + 1)) update marks s (k + 1) x (passedState update s at st)) (sym end)
+          ∙ ap (λ (x : State). recordsFault (n - (k + 1)) update marks s (k + 1) e x) (sym is);
+      upto = rw end (judged .upto (so .upto));
+    }
+
+module _ {update : Bool} {marks s : List ℕ} {n : ℕ} {t : List ℕ} {k at : ℕ} {st : State} (so : Reading update marks s n t k at st) (low : n ≤ k) where
+  pub reading-short : (r : Refusal) → st .stage < 2 → r ≡ refusal 5 k (length s) → r ≡ recordsFault (n - 1) update marks s 1 (recordAt s 1) firstState
+  unfolding recordsFault
+  reading-short r h q = let z : n - k ≡ 0 = omega arith in q ∙ sym (so .is ∙ rw (z, lt-ltb _ _ h))
+
+  pub reading-end : (r : Refusal) → 2 ≤ st .stage → r ≡ refusal 0 0 0 → r ≡ recordsFault (n - 1) update marks s 1 (recordAt s 1) firstState
+  unfolding recordsFault
+  reading-end r h q = let z : n - k ≡ 0 = omega arith in q ∙ sym (so .is ∙ rw (z, le-ltb _ _ h))
+
+-- ---- what Layout gives
+pub full-of : (update : Bool) (stage : ℕ) (marks s : List ℕ) (at l : ℕ) → RecordIn s at → l ≡ layoutFault update stage marks s at → l ≡ 0 → Full s at
+full-of update stage marks s at l known e z = record { known = known; full = laid update stage marks s at known (sym e ∙ z) .full }
+
+pub passing-of : (update : Bool) (stage : ℕ) (marks s : List ℕ) (at l : ℕ) → RecordIn s at → l ≡ layoutFault update stage marks s at → l ≡ 0 → Passing s at stage
+passing-of update stage marks s at l known e z =
+    let d = laid update stage marks s at known (sym e ∙ z) in
+    record {
+      known = known;
+      two = d .two;
+      dssi = λ (zero : stage ≡ 0).
+          let f = laid-dsid d zero in
+          let three : 3 ≤ countAt s at = let q = f .0 in omega arith in
+          (three, let size = full-dssi (contentAt s at 2) (rw (f .2) at (d .full 2 (omega arith))) in omega arith);
+    }
+
+-- ---- read_fault
+pub read-described : (update : Bool) (s : List ℕ) (n : ℕ) (d : Described) (r : Refusal) → marksOf d ≡ describedOf s → not (d .good) ≡ true → r ≡ refusal 4 0 0 → r ≡ readFault update s n
+unfolding readFault
+read-described update s n d r e h q =
+    let good = not-true (d .good) h in
+    let none : describedOf s ≡ [] = sym e ∙ rw good in
+    q ∙ rw none
+
+pub read-records : (update : Bool) (s : List ℕ) (n : ℕ) (d : Described) (r : Refusal) → marksOf d ≡ describedOf s → length (d .marks) ≡ 20 → not (d .good) ≡ false
+    → r ≡ recordsFault (n - 1) update (d .marks) s 1 (recordAt s 1) firstState → r ≡ readFault update s n
+unfolding readFault
+read-records update s n d r e twenty h q =
+    let good = not-false (d .good) h in
+    let same : describedOf s ≡ d .marks = sym e ∙ rw good in
+    let some : eqb (length (d .marks)) 0 ≡ false = rw twenty in
+    q ∙ rw (same, some)
+
+-- a blank table
+blank-of : (m : ℕ) (t : List ℕ) → t ≡ replicate m 0 → (length t ≡ m) × Upto t 0
+blank-of m t e = (ap length e ∙ length-replicate m 0, rw e (upto-zeros m))
+
+pub blank-upto : (t : List ℕ) → t ≡ replicate 65536 0 → (length t ≡ 65536) × Upto t 0
+blank-upto t e = blank-of 65536 t e

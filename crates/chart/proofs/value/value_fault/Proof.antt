@@ -1,0 +1,126 @@
+use mathlib.Core.Path.{sym, _∙_}
+-- The invariant: the answer from the start is the answer from field j on, with the labels met in the table.
+use Prim.Native.Nat.{_≤_, _-_}
+use mathlib.Core.Path.{_≡_}
+use native.Mathlib.Omega.{arith}
+use lib.ListN.{length}
+use Rattle.chart.proofs.ValueLaws.{Walked, walked-start, walked-on, walked-stop, walked-end, field-facts, lent-content, lent-filled, lent-length, count-few}
+use borrow.Author.Needs.{needs}
+use Rattle.chart.proofs.value.value_fault.Statement.{statement}
+use Rattle.chart.proofs.value.value_fault.Tie as tie
+use Rattle.chart.proofs.value.value_fault.Reads as reads
+use Rattle.chart.proofs.value.value_fault.Lts as lts
+use Rattle.chart.proofs.value.field_fault.Reads as field-fault-reads
+use Rattle.chart.proofs.value.stamp_of.Reads as stamp-of-reads
+use Rattle.iso8211.proofs.field.field_at.Reads as field-at-reads
+use Rattle.iso8211.proofs.field.head_of.Reads as head-of-reads
+use Rattle.table.proofs.kind_of.Reads as kind-of-reads
+
+abbrev Inv-loop : tie.InvT-loop
+Inv-loop s at update aall nall table₀ head count prev₀ stamp₀ j₀ table prev stamp j = (j ≤ count) × (length table ≡ 65536) × Walked update aall nall s at table₀ table j prev stamp
+
+abbrev μ-loop : tie.MeasureT-loop
+μ-loop s at update aall nall table₀ head count prev₀ stamp₀ j₀ table prev stamp j = count - j
+
+head-of-requires : tie.Need-head-of-requires Inv-loop μ-loop
+head-of-requires c κs = search needs
+
+cast-stamp : tie.Need-cast-stamp Inv-loop μ-loop
+cast-stamp c = search needs
+
+loop-holds : tie.Need-loop-holds Inv-loop μ-loop
+loop-holds c = (omega arith, c .before .before .before .pre .1 .1, walked-start _ _ _ _ _ _)
+
+field-at-requires : tie.Need-field-at-requires Inv-loop μ-loop
+field-at-requires c κs = search needs
+
+kind-of-requires : tie.Need-kind-of-requires Inv-loop μ-loop
+kind-of-requires c κs = search needs
+
+add-stamp-of : tie.Need-add-stamp-of Inv-loop μ-loop
+add-stamp-of c = search needs
+
+add-stamp-of-2 : tie.Need-add-stamp-of-2 Inv-loop μ-loop
+add-stamp-of-2 c = search needs
+
+cast-stamp-of : tie.Need-cast-stamp-of Inv-loop μ-loop
+cast-stamp-of c = search needs
+
+stamp-of-requires : tie.Need-stamp-of-requires Inv-loop μ-loop
+stamp-of-requires c κs = search needs
+
+sub-to : tie.Need-sub-to Inv-loop μ-loop
+sub-to c = let i = field-facts (c .before .before .before .before .before .loop .j) _ (c .before .before .before .before .before .before .before .before .before .pre .0) (omega arith) (c .before .before .before .field-at .ensures) in let fits = (c .before .before .before .before .before .before .before .before .before .pre .0 .known .framed .fits) in omega arith
+
+add-to : tie.Need-add-to Inv-loop μ-loop
+add-to c = let i = field-facts (c .before .before .before .before .before .loop .j) _ (c .before .before .before .before .before .before .before .before .before .pre .0) (omega arith) (c .before .before .before .field-at .ensures) in let fits = (c .before .before .before .before .before .before .before .before .before .pre .0 .known .framed .fits) in omega arith
+
+sub-field-fault : tie.Need-sub-field-fault Inv-loop μ-loop
+sub-field-fault c = search needs
+
+part-field-fault-start : tie.Need-part-field-fault-start Inv-loop μ-loop
+part-field-fault-start c = search needs
+
+part-field-fault-end : tie.Need-part-field-fault-end Inv-loop μ-loop
+part-field-fault-end c = let i = field-facts (c .before .before .before .before .before .loop .j) _ (c .before .before .before .before .before .before .before .before .before .pre .0) (omega arith) (c .before .before .before .field-at .ensures) in let fits = (c .before .before .before .before .before .before .before .before .before .pre .0 .known .framed .fits) in omega arith
+
+field-fault-requires : tie.Need-field-fault-requires Inv-loop μ-loop
+field-fault-requires c κs = (lent-filled _ _ _ (c .before .before .before .before .before .before .before .before .before .before .before .pre .0) (omega arith) (c .before .before .before .before .before .field-at .ensures) (c .before .before .before .before .kind-of .ensures .0), (c .before .before .before .before .before .before .before .loop .inv .1))
+
+sub-result : tie.Need-sub-result Inv-loop μ-loop
+sub-result c = search needs
+
+add-result : tie.Need-add-result Inv-loop μ-loop
+add-result c = let i = field-facts (c .before .before .before .before .before .before .before .before .before .before .before .loop .j) _ (c .before .before .before .before .before .before .before .before .before .before .before .before .before .before .before .pre .0) (omega arith) (c .before .before .before .before .before .before .before .before .before .field-at .ensures) in let fits = (c .before .before .before .before .before .before .before .before .before .before .before .before .before .before .before .pre .0 .known .framed .fits) in let l = lent-length (c .before .before .before .before .before .before .before .before .before .field-at .result) i fits in let w = (c .before .before .before .field-fault .ensures .within) in omega arith
+
+same-length : tie.Need-same-length Inv-loop μ-loop
+same-length c = (c .before .before .before .field-fault .kept .1 .1 .1 .1 .1 .0) ∙ (c .before .before .before .before .before .before .before .before .before .before .before .loop .inv .1) ∙ sym (c .before .before .before .before .before .before .before .before .before .before .before .before .before .before .before .pre .1 .1)
+
+returns : tie.Need-returns Inv-loop μ-loop
+returns c = let i = field-facts (c .before .before .before .before .before .before .before .before .before .before .before .loop .j) _ (c .before .before .before .before .before .before .before .before .before .before .before .before .before .before .before .pre .0) (omega arith) (c .before .before .before .before .before .before .before .before .before .field-at .ensures) in let fits = (c .before .before .before .before .before .before .before .before .before .before .before .before .before .before .before .pre .0 .known .framed .fits) in let l = lent-length (c .before .before .before .before .before .before .before .before .before .field-at .result) i fits in let w = (c .before .before .before .field-fault .ensures .within) in walked-stop (c .before .before .before .before .before .before .before .before .before .field-at .result) (c .before .before .before .before .before .before .before .before .before .before .before .loop .inv .2) (omega arith) (c .before .before .before .before .before .before .before .before .before .field-at .ensures) (c .before .before .before .before .before .before .before .before .kind-of .ensures .0) (c .before .before .before .before .before .before .before .before .kind-of .ensures .1) (lent-content (c .before .before .before .before .before .before .before .before .before .before .before .before .before .before .before .args .s .now) (c .before .before .before .before .before .before .before .before .before .field-at .result)) (c .before .before .before .before .before .before .before .stamp-of .ensures) (c .before .before .before .field-fault .ensures) (c .before .before .before .before .before .before .before .before .before .before .before .before .before .before .before .pre .0 .known .framed) (c .if1 .taken) (omega arith)
+
+add-j : tie.Need-add-j Inv-loop μ-loop
+add-j c = search needs
+
+loop-less : tie.Need-loop-less Inv-loop μ-loop
+loop-less c = omega arith
+
+loop-again : tie.Need-loop-again Inv-loop μ-loop
+loop-again c = (omega arith, (c .before .before .before .field-fault .kept .1 .1 .1 .1 .1 .0) ∙ (c .before .before .before .before .before .before .before .before .before .before .before .loop .inv .1), walked-on (c .before .before .before .before .before .before .before .before .before .field-at .result) (c .before .before .before .before .before .before .before .before .before .before .before .loop .inv .2) (omega arith) (c .before .before .before .before .before .before .before .before .before .field-at .ensures) (c .before .before .before .before .before .before .before .before .kind-of .ensures .0) (c .before .before .before .before .before .before .before .before .kind-of .ensures .1) (lent-content (c .before .before .before .before .before .before .before .before .before .before .before .before .before .before .before .args .s .now) (c .before .before .before .before .before .before .before .before .before .field-at .result)) (c .before .before .before .before .before .before .before .stamp-of .ensures) (c .before .before .before .field-fault .ensures) (c .if1 .left))
+
+same-length-2 : tie.Need-same-length-2 Inv-loop μ-loop
+same-length-2 c = (c .before .loop .inv .1) ∙ sym (c .before .before .before .before .before .pre .1 .1)
+
+returns-2 : tie.Need-returns-2 Inv-loop μ-loop
+returns-2 c = walked-end (c .before .loop .inv .2) (c .before .before .before .before .before .pre .0 .known .framed) (omega arith) (omega arith)
+
+pub value-fault-spec : {M : Type 1} → statement M
+value-fault-spec =
+    tie.close
+    (tie.spec
+    Inv-loop
+    μ-loop
+    head-of-requires
+    cast-stamp
+    loop-holds
+    field-at-requires
+    kind-of-requires
+    add-stamp-of
+    add-stamp-of-2
+    cast-stamp-of
+    stamp-of-requires
+    sub-to
+    add-to
+    sub-field-fault
+    part-field-fault-start
+    part-field-fault-end
+    field-fault-requires
+    sub-result
+    add-result
+    same-length
+    returns
+    add-j
+    loop-less
+    loop-again
+    same-length-2
+    returns-2)

@@ -1,0 +1,153 @@
+// The reading of a file's records: what each stage answers is a refusal or nothing.
+ghost use Prim.Native.Nat.{_+_, _-_, _≤_, _<_};
+ghost use mathlib.Core.Path.{_≡_};
+ghost use lib.ListN.{length, replicate};
+ghost use Rattle.iso8211.specs.File.{frameOf, recordAt};
+ghost use Rattle.chart.specs.Read.{refusal, Records, nextStage, isFeature, aallAt, nallAt, passedState, firstState, recordsFault, readFault, Passing};
+use crate::value::value_fault;
+use described::described;
+use iso8211::field::field_at;
+use iso8211::field::head_of;
+use iso8211::field::record_end;
+use iso8211::file::Framed;
+use layout::layout_fault;
+use octets::number::wide;
+use table::kind_of;
+
+// A refusal: its code in document 01's table, the record, and the byte of the file; code 0: none.
+pub struct Refusal {
+    pub code: u32,
+    pub index: usize,
+    pub offset: usize,
+}
+
+// What is known between two records: which kind of record is due (0 that of DSID, 1 that of DSPM, 2 a
+// vector or a feature, 3 a feature), and the levels AALL and NALL.
+pub struct State {
+    pub stage: usize,
+    pub aall: u32,
+    pub nall: u32,
+}
+
+fn refuse(code: u32, index: usize, offset: usize) -> Refusal
+    ensures { λ r. ⌜ r ≡ refusal code index offset ⌝ }
+{
+    Refusal {
+        code,
+        index,
+        offset,
+    }
+}
+
+fn next_stage(update: bool, stage: usize, feature: bool) -> usize
+    ensures { λ r. ⌜ r ≡ nextStage update stage feature ⌝ }
+{
+    if stage == 0 {
+        if update {
+            return 2;
+        }
+        return 1;
+    }
+    if stage == 1 {
+        return 2;
+    }
+    if feature { 3 } else { stage }
+}
+
+fn is_feature(s: &[u8], at: usize, stage: usize) -> bool
+    requires { ⌜ Passing (now s) at stage ⌝ }
+    ensures { λ r. ⌜ r ≡ isFeature (now (s .entry)) at ⌝ }
+{
+    let f = field_at(s, at, head_of(s, at), 1);
+    kind_of(f.tag) == 10
+}
+
+// The levels of the record of DSID and DSSI.
+fn levels(s: &[u8], at: usize, stage: usize) -> State
+    requires { ⌜ Passing (now s) at stage × (stage ≡ 0) ⌝ }
+    ensures { λ r. ⌜ (r .aall ≡ aallAt (now (s .entry)) at) × (r .nall ≡ nallAt (now (s .entry)) at) ⌝ }
+{
+    let f = field_at(s, at, head_of(s, at), 2);
+    let i = f.start;
+    State {
+        stage: 0,
+        aall: wide(s[i + 1]),
+        nall: wide(s[i + 2]),
+    }
+}
+
+// What is known behind the record at `at`.
+fn passed(s: &[u8], at: usize, update: bool, st: State) -> State
+    requires { ⌜ Passing (now s) at (st .stage) ⌝ }
+    ensures { λ r. ⌜ r ≡ passedState update (now (s .entry)) at st ⌝ }
+{
+    let stage = st.stage;
+    let next = next_stage(update, stage, is_feature(s, at, stage));
+    if stage == 0 {
+        let l = levels(s, at, stage);
+        return State {
+            stage: next,
+            aall: l.aall,
+            nall: l.nall,
+        };
+    }
+    State {
+        stage: next,
+        aall: st.aall,
+        nall: st.nall,
+    }
+}
+
+// The first record from record 1 on that breaks Layout or Value. The table is for the labels of the
+// lists of attributes: 65,536 zeros.
+fn records_fault(s: &[u8], n: usize, marks: &[u8], update: bool, table: &mut [u32]) -> Refusal
+    requires { ⌜ Records (now s) n (now marks) (now table) ⌝ }
+    ensures { λ r. ⌜ r ≡ recordsFault (n - 1) update (now (marks .entry)) (now (s .entry)) 1 (recordAt (now (s .entry)) 1) firstState ⌝ }
+{
+    let mut st = State {
+        stage: 0,
+        aall: 0,
+        nall: 0,
+    };
+    let mut at = record_end(s, 0);
+    let mut k: usize = 1;
+    while k < n {
+        let stage = st.stage;
+        let wrong = layout_fault(s, at, marks, update, stage);
+        if wrong != 0 {
+            return refuse(5, k, wrong);
+        }
+        let fault = value_fault(s, at, update, st.aall, st.nall, table);
+        if fault != 0 {
+            return refuse(6, k, fault);
+        }
+        st = passed(s, at, update, st);
+        at = record_end(s, at);
+        k += 1;
+    }
+    if st.stage < 2 {
+        return refuse(5, k, s.len());
+    }
+    refuse(0, 0, 0)
+}
+
+// A table in which no label is met: a number for each of the 65,536 labels that two bytes can name.
+fn blank() -> [u32; 65536]
+    ensures { λ r. ⌜ r ≡ replicate 65536 0 ⌝ }
+{
+    [0; 65536]
+}
+
+// The first thing in a framed file of n records that breaks Described, Layout or Value.
+pub fn read_fault(s: &[u8], n: usize, update: bool) -> Refusal
+    requires { ⌜ (frameOf (now s) ≡ Framed.Records n) × (length (now s) ≤ 5242880) ⌝ }
+    ensures { λ r. ⌜ r ≡ readFault update (now (s .entry)) n ⌝ }
+{
+    let d = described(s);
+    if !d.good {
+        return refuse(4, 0, 0);
+    }
+    let marks = d.marks;
+    let mut table = blank();
+    records_fault(s, n, &marks, update, &mut table)
+}

@@ -1,0 +1,2 @@
+-- The notions of `described`.
+pub mod Described

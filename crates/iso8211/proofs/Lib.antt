@@ -1,0 +1,10 @@
+-- Laws of `iso8211`: what the crates above may use is Promise; the others are for the proofs of this crate.
+pub mod DirectoryLaws
+pub mod RecordLaws
+pub mod FileLaws
+pub mod Promise
+pub mod SameLaws
+pub mod FormatsLaws
+pub mod FormatsBounds
+pub mod DescriptiveLaws
+pub mod FormatsExamples

@@ -1,0 +1,42 @@
+-- A row is what its three readers answer.
+use Rattle.iso8211.proofs.DirectoryLaws.{row-is}
+use borrow.Author.Needs.{needs}
+use Rattle.iso8211.proofs.directory.row_at.Statement.{statement}
+use Rattle.iso8211.proofs.directory.row_at.Tie as tie
+use Rattle.iso8211.proofs.directory.row_at.Reads as reads
+use Rattle.iso8211.proofs.directory.row_at.Lts as lts
+use Rattle.iso8211.proofs.directory.tag_at.Reads as tag-at-reads
+use Rattle.octets.proofs.digits.get_digits.Reads as get-digits-reads
+
+tag-at-requires : tie.Need-tag-at-requires
+tag-at-requires c κs = search needs
+
+add-get-digits : tie.Need-add-get-digits
+add-get-digits c = search needs
+
+get-digits-requires : tie.Need-get-digits-requires
+get-digits-requires c κs = search needs
+
+add-get-digits-2 : tie.Need-add-get-digits-2
+add-get-digits-2 c = search needs
+
+add-get-digits-3 : tie.Need-add-get-digits-3
+add-get-digits-3 c = search needs
+
+get-digits-requires-2 : tie.Need-get-digits-requires-2
+get-digits-requires-2 c κs = search needs
+
+returns : tie.Need-returns
+returns c = (row-is _ _ _ _ _ _ _ (c .before .before .tag-at .ensures) (c .before .get-digits .ensures) (c .get-digits2 .ensures), (c .before .get-digits .ensures .most, c .get-digits2 .ensures .most))
+
+pub row-at-spec : {M : Type 1} → statement M
+row-at-spec =
+    tie.close
+    (tie.spec
+    tag-at-requires
+    add-get-digits
+    get-digits-requires
+    add-get-digits-2
+    add-get-digits-3
+    get-digits-requires-2
+    returns)

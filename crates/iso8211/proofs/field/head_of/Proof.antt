@@ -1,0 +1,63 @@
+use mathlib.Core.Path.{ap, _∙_}
+use Rattle.iso8211.proofs.DirectoryLaws.{count-is}
+-- The numbers of the leader, read one by one.
+use borrow.Author.Needs.{needs}
+use Rattle.iso8211.proofs.field.head_of.Statement.{statement}
+use Rattle.iso8211.proofs.field.head_of.Tie as tie
+use Rattle.iso8211.proofs.field.head_of.Reads as reads
+use Rattle.iso8211.proofs.field.head_of.Lts as lts
+use Rattle.iso8211.proofs.record.digit_at.Reads as digit-at-reads
+use Rattle.octets.proofs.digits.get_digits.Reads as get-digits-reads
+
+add-get-digits : tie.Need-add-get-digits
+add-get-digits c = search needs
+
+get-digits-requires : tie.Need-get-digits-requires
+get-digits-requires c κs = search needs
+
+cast-base : tie.Need-cast-base
+cast-base c = search needs
+
+add-digit-at : tie.Need-add-digit-at
+add-digit-at c = search needs
+
+digit-at-requires : tie.Need-digit-at-requires
+digit-at-requires c κs = search needs
+
+add-digit-at-2 : tie.Need-add-digit-at-2
+add-digit-at-2 c = search needs
+
+digit-at-requires-2 : tie.Need-digit-at-requires-2
+digit-at-requires-2 c κs = search needs
+
+sub-count : tie.Need-sub-count
+sub-count c = search needs
+
+add-count : tie.Need-add-count
+add-count c = search needs
+
+add-count-2 : tie.Need-add-count-2
+add-count-2 c = search needs
+
+div-count : tie.Need-div-count
+div-count c = search needs
+
+returns : tie.Need-returns
+returns c = record { framed = c .before .before .before .before .pre; base = c .before .before .get-digits .ensures .is; lengths = c .before .digit-at .ensures .0; positions = c .digit-at2 .ensures .0; count = count-is _ _ _ _ _ (c .before .before .get-digits .ensures .is) (c .before .digit-at .ensures .0) (c .digit-at2 .ensures .0) }
+
+pub head-of-spec : {M : Type 1} → statement M
+head-of-spec =
+    tie.close
+    (tie.spec
+    add-get-digits
+    get-digits-requires
+    cast-base
+    add-digit-at
+    digit-at-requires
+    add-digit-at-2
+    digit-at-requires-2
+    sub-count
+    add-count
+    add-count-2
+    div-count
+    returns)

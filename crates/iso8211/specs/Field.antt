@@ -1,0 +1,65 @@
+-- The fields of a record whose framing is good, in order: what the crates above see of it. Assumes nothing.
+use Prim.Native.Nat.{ℕ, _+_, _-_, _*_, _/_, _%_, _≤_, _<_}
+use mathlib.Core.Bool.{Bool, true}
+use mathlib.Core.List.{List, []}
+use mathlib.Core.Path.{_≡_}
+use lib.ListN.{length, getD}
+use Rattle.octets.specs.Number.{byteAt}
+use Rattle.iso8211.specs.Leader.{sizeAt, baseAt, lengthDigits, positionDigits}
+use Rattle.iso8211.specs.Directory.{rowWidth, rows, tag, len, position}
+use Rattle.iso8211.specs.Record.{endOf, Led}
+use Rattle.iso8211.specs.declared.field.Field.{Field}
+use Rattle.iso8211.specs.declared.field.Head.{Head}
+
+-- how many fields the record at `at` has
+unfoldable pub countAt : List ℕ → ℕ → ℕ
+countAt s at = (baseAt s at - 25) / rowWidth (lengthDigits s at) (positionDigits s at)
+
+-- its directory
+unfoldable pub directoryAt : List ℕ → ℕ → List (List ℕ)
+directoryAt s at = rows (countAt s at) s (lengthDigits s at) (positionDigits s at) (at + 24)
+
+-- a field by its row: its tag, where it starts in the file, and its length with the closing 1E
+abbrev pub fieldOf : List ℕ → ℕ → List ℕ → Field
+fieldOf s at row = record { tag = tag row; start = at + baseAt s at + position row; length = len row }
+
+-- field k
+unfoldable pub fieldAt : List ℕ → ℕ → ℕ → Field
+fieldAt s at k = fieldOf s at (getD (directoryAt s at) k [])
+
+-- what is known of a record whose framing is good
+pub record FramedAt (s : List ℕ) (at : ℕ) : Type 0 where
+  pub led : Led s at
+  pub fits : at + sizeAt s at ≤ length s
+  pub small : sizeAt s at ≤ 99999
+  pub low : 25 + rowWidth (lengthDigits s at) (positionDigits s at) ≤ baseAt s at
+  pub high : baseAt s at ≤ sizeAt s at
+  pub whole : 25 + countAt s at * rowWidth (lengthDigits s at) (positionDigits s at) ≡ baseAt s at
+  pub some : 1 ≤ countAt s at
+
+-- what is known of a field of such a record: it lies in the record behind the directory, has a byte at least, and its last is 1E
+pub record FieldIn (s : List ℕ) (at : ℕ) (f : Field) : Type 0 where
+  pub after : at + baseAt s at ≤ f .start
+  pub long : 1 ≤ f .length
+  pub within : f .start + f .length ≤ endOf s at
+  pub ends : byteAt s (f .start + f .length - 1) ≡ 30
+
+-- h has the numbers of the leader of such a record that reading its fields takes
+pub record HeadOf (s : List ℕ) (at : ℕ) (h : Head) : Type 0 where
+  pub framed : FramedAt s at
+  pub base : h .base ≡ baseAt s at
+  pub lengths : h .lengths ≡ lengthDigits s at
+  pub positions : h .positions ≡ positionDigits s at
+  pub count : h .count ≡ countAt s at
+
+-- row k is one of the directory's, with l digits of length and p of position
+pub record Rowed (s : List ℕ) (at l p k : ℕ) : Type 0 where
+  pub framed : FramedAt s at
+  pub lengths : l ≡ lengthDigits s at
+  pub positions : p ≡ positionDigits s at
+  pub below : k < countAt s at
+
+-- what is known of a record whose framing is good, and of each of its fields
+pub record RecordIn (s : List ℕ) (at : ℕ) : Type 0 where
+  pub framed : FramedAt s at
+  pub fields : (j : ℕ) → j < countAt s at → FieldIn s at (fieldAt s at j)

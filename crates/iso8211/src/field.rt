@@ -1,0 +1,74 @@
+// The fields of a record whose framing is good.
+ghost use Prim.Native.Nat.{_+_, _*_, _≤_, _<_};
+ghost use mathlib.Core.Path.{_≡_};
+ghost use lib.ListN.{length};
+ghost use Rattle.iso8211.specs.Directory.{rowWidth};
+ghost use Rattle.iso8211.specs.Record.{endOf};
+ghost use Rattle.iso8211.specs.Field.{countAt, fieldAt, FramedAt, HeadOf, Rowed};
+use crate::directory::row_at;
+use crate::record::digit_at;
+use octets::digits::get_digits;
+
+// The numbers of a leader that reading a field takes.
+pub struct Head {
+    pub base: usize,
+    pub lengths: usize,
+    pub positions: usize,
+    pub count: usize,
+}
+
+// A field: its tag's four bytes as a number, where it starts in the file, its length with its 1E.
+pub struct Field {
+    pub tag: u32,
+    pub start: usize,
+    pub length: usize,
+}
+
+// Where the record at `at` ends.
+pub fn record_end(s: &[u8], at: usize) -> usize
+    requires { ⌜ FramedAt (now s) at ⌝ }
+    ensures { λ r. ⌜ (r ≡ endOf (now (s .entry)) at) × ((at < r) × (r ≤ length (now (s .entry)))) ⌝ }
+{
+    at + get_digits(s, at, 5) as usize
+}
+
+pub fn head_of(s: &[u8], at: usize) -> Head
+    requires { ⌜ FramedAt (now s) at ⌝ }
+    ensures { λ r. ⌜ HeadOf (now (s .entry)) at r ⌝ }
+{
+    let base = get_digits(s, at + 12, 5) as usize;
+    let lengths = digit_at(s, at + 20);
+    let positions = digit_at(s, at + 21);
+    let count = (base - 25) / (4 + lengths + positions);
+    Head {
+        base,
+        lengths,
+        positions,
+        count,
+    }
+}
+
+// Where row k of the directory stands, its rows having l digits of length and p of position.
+fn row_place(s: &[u8], at: usize, l: usize, p: usize, k: usize) -> usize
+    requires { ⌜ Rowed (now s) at l p k ⌝ }
+    ensures { λ r. ⌜ (r ≡ at + 24 + k * rowWidth l p) × (r + rowWidth l p ≤ length (now (s .entry))) ⌝ }
+{
+    at + 24 + k * (4 + l + p)
+}
+
+// Field k of the record at `at`, whose head is h.
+pub fn field_at(s: &[u8], at: usize, h: Head, k: usize) -> Field
+    requires { ⌜ HeadOf (now s) at h × (k < countAt (now s) at) ⌝ }
+    ensures { λ r. ⌜ r ≡ fieldAt (now (s .entry)) at k ⌝ }
+{
+    let l = h.lengths;
+    let p = h.positions;
+    let base = h.base;
+    let i = row_place(s, at, l, p, k);
+    let row = row_at(s, l, p, i);
+    Field {
+        tag: row[0],
+        start: at + base + row[2] as usize,
+        length: row[1] as usize,
+    }
+}

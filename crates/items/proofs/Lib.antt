@@ -1,0 +1,7 @@
+-- Laws of `items`: what the crates above may use is in ListsLaws, CursorLaws, IdentityLaws and Promise.
+pub mod KindLaws
+pub mod ListsLaws
+pub mod CursorLaws
+pub mod CountLaws
+pub mod IdentityLaws
+pub mod Promise

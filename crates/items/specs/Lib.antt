@@ -1,0 +1,5 @@
+-- The notions of `items`, in the order in which a reader should meet them.
+pub mod Lists
+pub mod Cursors
+pub mod Identity
+pub mod Examples

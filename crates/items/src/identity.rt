@@ -1,0 +1,109 @@
+// What a record is: its name, its version, and of a feature its primitive, class and FOID.
+ghost use Prim.Native.Nat.{_≤_, _<_};
+ghost use mathlib.Core.Path.{_≡_};
+ghost use lib.ListN.{length};
+ghost use Rattle.iso8211.specs.Field.{countAt, HeadOf};
+ghost use Rattle.items.specs.Lists.{LaidOut};
+ghost use Rattle.items.specs.Identity.{idAt, rcnmAt, rcidAt, primAt, objlAt, foidAt, rankOf, versionAt, nameAt, wordFor, Identified, Featured};
+use iso8211::field::Head;
+use iso8211::field::field_at;
+use octets::number::get1;
+use octets::number::get2;
+use octets::number::get4;
+use octets::number::get8;
+
+// Where the identifier field starts.
+fn id_at(s: &[u8], at: usize, h: Head) -> usize
+    requires { ⌜ LaidOut (now s) at × HeadOf (now s) at h ⌝ }
+    ensures { λ r. ⌜ r ≡ idAt (now (s .entry)) at ⌝ }
+{
+    let f = field_at(s, at, h, 1);
+    f.start
+}
+
+// RCNM: which kind of vector, or a feature.
+pub fn rcnm_of(s: &[u8], at: usize, h: Head) -> u32
+    requires { ⌜ LaidOut (now s) at × HeadOf (now s) at h × Identified (now s) at ⌝ }
+    ensures { λ r. ⌜ (r ≡ rcnmAt (now (s .entry)) at) × (r < 256) ⌝ }
+{
+    let id = id_at(s, at, h);
+    get1(s, id)
+}
+
+pub fn rcid_of(s: &[u8], at: usize, h: Head) -> u32
+    requires { ⌜ LaidOut (now s) at × HeadOf (now s) at h × Identified (now s) at ⌝ }
+    ensures { λ r. ⌜ (r ≡ rcidAt (now (s .entry)) at) × (r < 4294967296) ⌝ }
+{
+    let id = id_at(s, at, h);
+    get4(s, id + 1)
+}
+
+// PRIM of a feature.
+pub fn prim_of(s: &[u8], at: usize, h: Head) -> u32
+    requires { ⌜ LaidOut (now s) at × HeadOf (now s) at h × Featured (now s) at ⌝ }
+    ensures { λ r. ⌜ (r ≡ primAt (now (s .entry)) at) × (r < 256) ⌝ }
+{
+    let id = id_at(s, at, h);
+    get1(s, id + 5)
+}
+
+// OBJL of a feature.
+pub fn objl_of(s: &[u8], at: usize, h: Head) -> u32
+    requires { ⌜ LaidOut (now s) at × HeadOf (now s) at h × Featured (now s) at ⌝ }
+    ensures { λ r. ⌜ (r ≡ objlAt (now (s .entry)) at) × (r < 65536) ⌝ }
+{
+    let id = id_at(s, at, h);
+    get2(s, id + 7)
+}
+
+// FOID of a feature, its eight bytes as a number.
+pub fn foid_of(s: &[u8], at: usize, h: Head) -> u64
+    requires { ⌜ LaidOut (now s) at × HeadOf (now s) at h × Featured (now s) at ⌝ }
+    ensures { λ r. ⌜ r ≡ foidAt (now (s .entry)) at ⌝ }
+{
+    let f = field_at(s, at, h, 2);
+    let start = f.start;
+    get8(s, start)
+}
+
+// RVER, which stands at another place in a feature.
+pub fn version_of(s: &[u8], at: usize, h: Head) -> u32
+    requires { ⌜ LaidOut (now s) at × HeadOf (now s) at h × Identified (now s) at ⌝ }
+    ensures { λ r. ⌜ (r ≡ versionAt (now (s .entry)) at) × (r < 65536) ⌝ }
+{
+    let id = id_at(s, at, h);
+    if get1(s, id) == 100 {
+        return get2(s, id + 9);
+    }
+    get2(s, id + 5)
+}
+
+// The place of a class in held order.
+pub fn rank_of(rcnm: u32) -> u64
+    ensures { λ r. ⌜ (r ≡ rankOf rcnm) × (r ≤ 3) ⌝ }
+{
+    match rcnm {
+        110 => 0,
+        120 => 1,
+        130 => 2,
+        _ => 3,
+    }
+}
+
+// The name as a number.
+pub fn name_of(s: &[u8], at: usize, h: Head) -> u64
+    requires { ⌜ LaidOut (now s) at × HeadOf (now s) at h × Identified (now s) at ⌝ }
+    ensures { λ r. ⌜ (r ≡ nameAt (now (s .entry)) at) × (r < 17179869184) ⌝ }
+{
+    let rank = rank_of(rcnm_of(s, at, h));
+    let rcid = rcid_of(s, at, h) as u64;
+    rank * 4294967296 + rcid
+}
+
+// The name and the record's place in one word.
+pub fn word_for(s: &[u8], at: usize, h: Head) -> u64
+    requires { ⌜ LaidOut (now s) at × HeadOf (now s) at h × Identified (now s) at × (length (now s) ≤ 5242880) ⌝ }
+    ensures { λ r. ⌜ r ≡ wordFor (now (s .entry)) at ⌝ }
+{
+    name_of(s, at, h) * 16777216 + at as u64
+}

@@ -1,0 +1,31 @@
+// Whether a field is filled by its subfields.
+ghost use mathlib.Core.Path.{_≡_};
+ghost use Rattle.layout.specs.Layout.{filled};
+use crate::place::DSID;
+use crate::place::DSPM;
+use entries::Shape;
+use entries::whole;
+use table::kind_row;
+use values::dsid::dsid_laid;
+use values::dspm::dspm_laid;
+
+// Whether the bytes of a field of kind k, without its closing 1E, hold its subfields and no more.
+pub fn filled(c: &[u8], k: usize) -> bool
+    ensures { λ r. ⌜ r ≡ filled k (now (c .entry)) ⌝ }
+{
+    if k == DSID {
+        return dsid_laid(c);
+    }
+    if k == DSPM {
+        return dspm_laid(c);
+    }
+    let row = kind_row(k);
+    if row.list {
+        let shape = Shape {
+            fixed: row.fixed,
+            unit: row.unit,
+        };
+        return whole(c, shape);
+    }
+    c.len() == row.fixed
+}

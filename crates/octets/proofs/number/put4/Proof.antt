@@ -1,0 +1,23 @@
+use Rattle.octets.proofs.NumberLaws.{put-halves, wrote-to}
+use native.Mathlib.Omega.{arith}
+use borrow.Author.Needs.{needs}
+use Rattle.octets.proofs.number.put4.Statement.{statement}
+use Rattle.octets.proofs.number.put4.Tie as tie
+use Rattle.octets.proofs.number.put4.Reads as reads
+use Rattle.octets.proofs.number.put4.Lts as lts
+use Rattle.octets.proofs.number.put2.Reads as put2-reads
+
+put2-requires : tie.Need-put2-requires
+put2-requires c κs = search needs
+
+put2-requires-2 : tie.Need-put2-requires-2
+put2-requires-2 c κs = omega (arith, wrote-to 2 _ (c .before .before .before .put2 .ensures), c .before .before .before .put2 .kept .0)
+
+same-length : tie.Need-same-length
+same-length c = search needs
+
+returns : tie.Need-returns
+returns c = put-halves 2 _ (c .before .before .before .before .before .before .put2 .ensures) (c .before .before .put22 .ensures)
+
+pub put4-spec : {M : Type 1} → statement M
+put4-spec = tie.close (tie.spec put2-requires put2-requires-2 same-length returns)

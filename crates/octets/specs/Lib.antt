@@ -1,0 +1,4 @@
+-- The notions of `octets`, in the order in which a reader should meet them.
+pub mod Number
+pub mod Digits
+pub mod Area

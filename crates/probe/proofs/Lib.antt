@@ -1,0 +1,4 @@
+-- Laws of `probe`.
+pub mod VerdictLaws
+pub mod WalkLaws
+pub mod CutLaws

@@ -1,0 +1,3 @@
+-- The notions of `table`, in the order in which a reader should meet them.
+pub mod Text
+pub mod Table

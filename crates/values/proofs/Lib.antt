@@ -1,0 +1,9 @@
+-- Laws of `values`, one file for each notion of specs/ that has some, and examples.
+pub mod Examples
+pub mod FaultLaws
+pub mod TextLaws
+pub mod RuleLaws
+pub mod ClassLaws
+pub mod DsidLaws
+pub mod DspmLaws
+pub mod Promise

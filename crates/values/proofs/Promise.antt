@@ -1,0 +1,196 @@
+-- What the crates above get from a fault: where it stands, and, where there is none, the facts of numbers that the field's values give. Assumes nothing.
+use Prim.Native.Nat.{ℕ, _+_, _-_, _≤_}
+use mathlib.Core.Bool.{Bool, true, cond}
+use mathlib.Core.List.{List}
+use mathlib.Core.Path.{_≡_}
+use native.Mathlib.Omega.{arith}
+use lib.ListN.{length}
+use lib.Dec.{leb, eqb}
+use borrow.Author.Tests.{leb-true, eqb-true}
+use Rattle.octets.specs.Number.{byteAt, numAt}
+use Rattle.octets.specs.Digits.{numberAt}
+use Rattle.octets.proofs.Tests.{both, all3}
+use Rattle.values.specs.Date.{dateGood}
+use Rattle.values.specs.Rule.{within, rcidGood, rverGood, ruinGood, digitsWithin}
+use Rattle.values.specs.Class.{objlGood}
+use Rattle.values.specs.Dsid.{Filled, DsidLaid, dsidEnds, dsnmGood, edtnGood, updnDigits, updnGood, headFault, namesFault, issueFault, productFault, dsidOver, dsidFault}
+use Rattle.values.specs.Dssi.{dssiFault}
+use Rattle.values.specs.Dspm.{DspmLaid, datumFault, unitsFault, factorsFault, dspmFault}
+use Rattle.values.specs.Vrid.{isVector, vridFault}
+use Rattle.values.specs.Frid.{primGood, fridFault}
+use Rattle.values.specs.declared.dsid.Ends.{Ends}
+use Rattle.values.proofs.FaultLaws.{fault-none, first-none, fault-within, first-within}
+
+-- ---- a fault stands in its field: its number is at most the field's length
+pub vrid-within : (update : Bool) (s : List ℕ) → length s ≡ 8 → vridFault update s ≤ length s
+unfolding vridFault
+vrid-within update s e =
+    first-within _ _ _ (fault-within _ 0 _ (omega arith)) (first-within _ _ _ (fault-within _ 1 _ (omega arith))
+    (first-within _ _ _ (fault-within _ 5 _ (omega arith)) (fault-within _ 7 _ (omega arith))))
+
+pub frid-within : (update : Bool) (s : List ℕ) → length s ≡ 12 → fridFault update s ≤ length s
+unfolding fridFault
+frid-within update s e =
+    first-within _ _ _ (fault-within _ 0 _ (omega arith)) (first-within _ _ _ (fault-within _ 1 _ (omega arith))
+    (first-within _ _ _ (fault-within _ 5 _ (omega arith)) (first-within _ _ _ (fault-within _ 7 _ (omega arith))
+    (first-within _ _ _ (fault-within _ 9 _ (omega arith)) (fault-within _ 11 _ (omega arith))))))
+
+pub dssi-within : (update : Bool) (s : List ℕ) → length s ≡ 35 → dssiFault update s ≤ length s
+unfolding dssiFault
+dssi-within update s e =
+    first-within _ _ _ (fault-within _ 0 _ (omega arith)) (first-within _ _ _ (fault-within _ 1 _ (omega arith))
+    (first-within _ _ _ (fault-within _ 2 _ (omega arith)) (first-within _ _ _ (fault-within _ 7 _ (omega arith))
+    (fault-within _ 31 _ (omega arith)))))
+
+pub dspm-within : (s : List ℕ) → DspmLaid s → dspmFault s ≤ length s
+unfolding dspmFault datumFault unitsFault factorsFault
+dspm-within s laid =
+    let long = laid .long in
+    first-within _ _ _
+    (first-within _ _ _ (fault-within _ 0 _ (omega arith)) (first-within _ _ _ (fault-within _ 1 _ (omega arith)) (fault-within _ 5 _ (omega arith))))
+    (first-within _ _ _
+    (first-within _ _ _ (fault-within _ 12 _ (omega arith)) (first-within _ _ _ (fault-within _ 13 _ (omega arith))
+    (first-within _ _ _ (fault-within _ 14 _ (omega arith)) (fault-within _ 15 _ (omega arith)))))
+    (first-within _ _ _ (fault-within _ 16 _ (omega arith)) (first-within _ _ _ (fault-within _ 20 _ (omega arith)) (fault-within _ 24 _ (omega arith)))))
+
+over-within : (update : Bool) (s : List ℕ) (e : Ends) → Filled s e → dsidOver update s e ≤ length s
+unfolding dsidOver headFault namesFault issueFault productFault
+over-within update s e laid =
+    first-within _ _ _
+    (first-within _ _ _ (fault-within _ 0 _ (omega arith)) (first-within _ _ _ (fault-within _ 1 _ (omega arith))
+    (first-within _ _ _ (fault-within _ 5 _ (omega arith)) (fault-within _ 6 _ (omega arith)))))
+    (first-within _ _ _
+    (first-within _ _ _ (fault-within _ 7 _ (omega arith)) (first-within _ _ _ (fault-within _ (e .dsnm + 1) _ (omega arith)) (fault-within _ (e .edtn + 1) _ (omega arith))))
+    (first-within _ _ _
+    (first-within _ _ _ (fault-within _ (e .updn + 1) _ (omega arith)) (first-within _ _ _ (fault-within _ (e .updn + 1 + 8) _ (omega arith))
+    (first-within _ _ _ (fault-within _ (e .updn + 1 + 16) _ (omega arith)) (fault-within _ (e .updn + 1 + 20) _ (omega arith)))))
+    (first-within _ _ _ (fault-within _ (e .updn + 22) _ (omega arith)) (first-within _ _ _ (fault-within _ (e .psdn + 1) _ (omega arith))
+    (first-within _ _ _ (fault-within _ (e .pred + 1) _ (omega arith)) (fault-within _ (e .pred + 4) _ (omega arith)))))))
+
+pub dsid-within : (update : Bool) (s : List ℕ) → DsidLaid s → dsidFault update s ≤ length s
+unfolding dsidFault
+dsid-within update s laid = over-within update s (dsidEnds s) laid
+
+-- ---- a number that is within two others
+within-told : (low high v : ℕ) → within low high v ≡ true → (low ≤ v) × (v ≤ high)
+unfolding within
+within-told low high v h =
+    let p = both (leb low v) (leb v high) h in (leb-true low v (p .0), leb-true v high (p .1))
+
+-- ---- a VRID and a FRID without fault
+pub record VridGood (update : Bool) (s : List ℕ) : Type 0 where
+  pub rcnm : isVector (byteAt s 0) ≡ true
+  pub rcid : (1 ≤ numAt s 1 4) × (numAt s 1 4 ≤ 4294967294)
+  pub rver : 1 ≤ numAt s 5 2
+  pub ruin : (1 ≤ byteAt s 7) × (byteAt s 7 ≤ cond update 3 1)
+
+pub vrid-good : (update : Bool) (s : List ℕ) → vridFault update s ≡ 0 → VridGood update s
+unfolding vridFault rcidGood rverGood ruinGood
+vrid-good update s h =
+    let a = first-none _ _ h in
+    let b = first-none _ _ (a .1) in
+    let c = first-none _ _ (b .1) in
+    record {
+      rcnm = fault-none 0 (isVector (byteAt s 0)) (a .0);
+      rcid = within-told 1 4294967294 (numAt s 1 4) (fault-none 1 (rcidGood s 1) (b .0));
+      rver = leb-true 1 (numAt s 5 2) (fault-none 5 (rverGood s 5) (c .0));
+      ruin = within-told 1 (cond update 3 1) (byteAt s 7) (fault-none 7 (ruinGood update (byteAt s 7)) (c .1));
+    }
+
+pub record FridGood (update : Bool) (s : List ℕ) : Type 0 where
+  pub rcnm : byteAt s 0 ≡ 100
+  pub rcid : (1 ≤ numAt s 1 4) × (numAt s 1 4 ≤ 4294967294)
+  pub prim : primGood (byteAt s 5) ≡ true
+  pub objl : objlGood (numAt s 7 2) ≡ true
+  pub rver : 1 ≤ numAt s 9 2
+  pub ruin : (1 ≤ byteAt s 11) × (byteAt s 11 ≤ cond update 3 1)
+
+pub frid-good : (update : Bool) (s : List ℕ) → fridFault update s ≡ 0 → FridGood update s
+unfolding fridFault rcidGood rverGood ruinGood
+frid-good update s h =
+    let a = first-none _ _ h in
+    let b = first-none _ _ (a .1) in
+    let c = first-none _ _ (b .1) in
+    let d = first-none _ _ (c .1) in
+    let e = first-none _ _ (d .1) in
+    record {
+      rcnm = eqb-true (byteAt s 0) 100 (fault-none 0 (eqb (byteAt s 0) 100) (a .0));
+      rcid = within-told 1 4294967294 (numAt s 1 4) (fault-none 1 (rcidGood s 1) (b .0));
+      prim = fault-none 5 (primGood (byteAt s 5)) (c .0);
+      objl = fault-none 7 (objlGood (numAt s 7 2)) (d .0);
+      rver = leb-true 1 (numAt s 9 2) (fault-none 9 (rverGood s 9) (e .0));
+      ruin = within-told 1 (cond update 3 1) (byteAt s 11) (fault-none 11 (ruinGood update (byteAt s 11)) (e .1));
+    }
+
+-- ---- a DSSI and a DSPM without fault
+pub record DssiGood (update : Bool) (s : List ℕ) : Type 0 where
+  pub aall : byteAt s 1 ≤ 1
+  pub nall : byteAt s 2 ≤ 1
+
+pub dssi-good : (update : Bool) (s : List ℕ) → dssiFault update s ≡ 0 → DssiGood update s
+unfolding dssiFault
+dssi-good update s h =
+    let a = first-none _ _ h in
+    let b = first-none _ _ (a .1) in
+    let c = first-none _ _ (b .1) in
+    record {
+      aall = leb-true (byteAt s 1) 1 (fault-none 1 (leb (byteAt s 1) 1) (b .0));
+      nall = leb-true (byteAt s 2) 1 (fault-none 2 (leb (byteAt s 2) 1) (c .0));
+    }
+
+pub record DspmGood (s : List ℕ) : Type 0 where
+  pub rcid : (1 ≤ numAt s 1 4) × (numAt s 1 4 ≤ 4294967294)
+  pub comf : (1 ≤ numAt s 16 4) × (numAt s 16 4 ≤ 10000000)
+  pub somf : numAt s 20 4 ≡ 10
+
+pub dspm-good : (s : List ℕ) → dspmFault s ≡ 0 → DspmGood s
+unfolding dspmFault datumFault factorsFault rcidGood
+dspm-good s h =
+    let a = first-none _ _ h in
+    let datum = first-none _ _ (first-none _ _ (a .0) .1) in
+    let factors = first-none _ _ (first-none _ _ (a .1) .1) in
+    record {
+      rcid = within-told 1 4294967294 (numAt s 1 4) (fault-none 1 (rcidGood s 1) (datum .0));
+      comf = within-told 1 10000000 (numAt s 16 4) (fault-none 16 (within 1 10000000 (numAt s 16 4)) (factors .0));
+      somf = eqb-true (numAt s 20 4) 10 (fault-none 20 (eqb (numAt s 20 4) 10) (first-none _ _ (factors .1) .0));
+    }
+
+-- ---- a DSID without fault, whose texts end as e says
+-- one to `width` digits from i up to e, which make a number from least to most
+pub record DigitsGood (width least most : ℕ) (s : List ℕ) (i e : ℕ) : Type 0 where
+  pub some : 1 ≤ e - i
+  pub few : e - i ≤ width
+  pub low : least ≤ numberAt s i (e - i)
+  pub high : numberAt s i (e - i) ≤ most
+
+digits-good : (width least most : ℕ) (s : List ℕ) (i e : ℕ) → digitsWithin width least most s i e ≡ true → DigitsGood width least most s i e
+unfolding digitsWithin
+digits-good width least most s i e h =
+    let t = all3 (leb 1 (e - i)) (leb (e - i) width) (within least most (numberAt s i (e - i))) h in
+    let w = within-told least most (numberAt s i (e - i)) (t .2) in
+    record { some = leb-true 1 (e - i) (t .0); few = leb-true (e - i) width (t .1); low = w .0; high = w .1 }
+
+pub record DsidGood (update : Bool) (s : List ℕ) (e : Ends) : Type 0 where
+  pub name : dsnmGood update s (e .dsnm) ≡ true
+  pub edition : DigitsGood 4 1 9999 s (e .dsnm + 1) (e .edtn)
+  pub number : DigitsGood 3 (cond update 1 0) 999 s (e .edtn + 1) (e .updn)
+  pub issued : dateGood s (e .updn + 1 + 8) ≡ true
+
+over-good : (update : Bool) (s : List ℕ) (e : Ends) → dsidOver update s e ≡ 0 → DsidGood update s e
+unfolding dsidOver namesFault issueFault edtnGood updnGood updnDigits
+over-good update s e h =
+    let a = first-none _ _ (first-none _ _ h .1) in
+    let n = first-none _ _ (a .0) in
+    let m = first-none _ _ (n .1) in
+    let i = first-none _ _ (first-none _ _ (first-none _ _ (a .1) .0) .1) in
+    let digits = digitsWithin 3 (cond update 1 0) 999 s (e .edtn + 1) (e .updn) in
+    record {
+      name = fault-none 7 (dsnmGood update s (e .dsnm)) (n .0);
+      edition = digits-good 4 1 9999 s (e .dsnm + 1) (e .edtn) (fault-none (e .dsnm + 1) (edtnGood s (e .dsnm + 1) (e .edtn)) (m .0));
+      number = digits-good 3 (cond update 1 0) 999 s (e .edtn + 1) (e .updn) (both digits _ (fault-none (e .edtn + 1) (updnGood update s (e .edtn + 1) (e .updn)) (m .1)) .0);
+      issued = fault-none (e .updn + 1 + 8) (dateGood s (e .updn + 1 + 8)) (i .0);
+    }
+
+pub dsid-good : (update : Bool) (s : List ℕ) → dsidFault update s ≡ 0 → DsidGood update s (dsidEnds s)
+unfolding dsidFault
+dsid-good update s h = over-good update s (dsidEnds s) h
