@@ -1,3 +1,4 @@
 -- Laws of `chart`.
 pub mod ValueLaws
 pub mod ReadLaws
+pub mod Promise

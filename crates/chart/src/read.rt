@@ -29,7 +29,7 @@ pub struct State {
     pub nall: u32,
 }
 
-fn refuse(code: u32, index: usize, offset: usize) -> Refusal
+pub fn refuse(code: u32, index: usize, offset: usize) -> Refusal
     ensures { λ r. ⌜ r ≡ refusal code index offset ⌝ }
 {
     Refusal {

@@ -1,0 +1,11 @@
+-- Laws of `names`: what the crates above may use is in NamesLaws and NeighboursLaws; the others are for the proofs of this crate.
+pub mod WalkLaws
+pub mod NamesLaws
+pub mod CollectLaws
+pub mod RepeatLaws
+pub mod NeighboursLaws
+pub mod TwiceLaws
+pub mod ReadableLaws
+pub mod CountsLaws
+pub mod LookupLaws
+pub mod FoidsLaws

@@ -1,0 +1,8 @@
+-- The notions of `names`, in the order in which a reader should meet them.
+pub mod Names
+pub mod Area
+pub mod Neighbours
+pub mod Counts
+pub mod Lookup
+pub mod Foids
+pub mod Examples

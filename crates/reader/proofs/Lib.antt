@@ -1,0 +1,4 @@
+-- Laws of `reader`.
+pub mod FrontLaws
+pub mod ReaderLaws
+pub mod CallLaws

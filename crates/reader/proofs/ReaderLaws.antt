@@ -1,0 +1,163 @@
+-- Laws of reading whole: what a file without a refusal of codes 4 to 6 gives to those who read its names and counts, and the answers in
+-- order. Assumes nothing.
+use Prim.Native.Nat.{ℕ, zero, suc, _+_, _-_, _*_, _≤_, _<_}
+use mathlib.Core.Bool.{Bool, true, false, not, cond}
+use mathlib.Core.List.{List}
+use mathlib.Core.Logic.{⊎-elim, _⊎_, inl, inr}
+use mathlib.Core.Path.{_≡_, refl, sym, ap, _∙_}
+use native.Mathlib.Nat.{add-zero}
+use native.Mathlib.Omega.{arith}
+use lib.ListN.{length, take, drop}
+use lib.Dec.{eqb, ltb}
+use borrow.Author.Tests.{eq-eqb, ne-eqb, lt-ltb, le-ltb, not-true, not-false}
+use Rattle.octets.specs.Number.{byteAt}
+use Rattle.octets.proofs.Cases.{eq-or-ne, le-or-lt}
+use Rattle.octets.proofs.Tests.{told-no, told-yes}
+use Rattle.iso8211.specs.Record.{endOf}
+use Rattle.iso8211.specs.Field.{countAt, fieldAt, FramedAt, FieldIn, RecordIn}
+use Rattle.iso8211.specs.File.{frameOf, recordAt}
+use Rattle.iso8211.specs.declared.field.Field.{Field}
+use Rattle.iso8211.specs.declared.file.Framed.the-variants.{Records}
+use Rattle.iso8211.proofs.Promise.{record-in, at-next, at-first, last-ends}
+use Rattle.table.specs.Table.{kindOf, VRID, FRID, DSSI}
+use Rattle.attributes.proofs.PartLaws.{part-byte}
+use Rattle.values.specs.Vrid.{isVector}
+use Rattle.values.proofs.Promise.{vrid-good}
+use Rattle.described.specs.Described.{describedOf}
+use Rattle.layout.specs.Layout.{contentOf}
+use Rattle.layout.specs.Record.{Laid, kindAt, contentAt}
+use Rattle.layout.proofs.Promise.{laid, laid-item, laid-late, laid-dsid, full-vrid, full-dssi, content-length}
+use Rattle.items.specs.Lists.{LaidOut}
+use Rattle.items.specs.Identity.{Identified, rcnmAt, idAt}
+use Rattle.items.proofs.Promise.{laid-record, laid-featured, vector-identified, feature-identified}
+use Rattle.chart.specs.Read.{refusal, fine, readFault}
+use Rattle.chart.specs.declared.read.Refusal.{Refusal}
+use Rattle.chart.proofs.Promise.{Here, Good, StageAt, good-records, fair, fair-vrid}
+use Rattle.names.specs.Names.{firstItem, Readable, twiceOf}
+use Rattle.names.specs.Counts.{DssiThere, countsGood}
+use Rattle.names.specs.declared.twice.Repeat.{Repeat}
+use Rattle.reader.specs.Reader.{twiceRefusal, countsRefusal, cellFault, updateFault}
+
+rcnm-there : (s : List ℕ) (at : ℕ) → byteAt s (idAt s at + 0) ≡ rcnmAt s at
+unfolding rcnmAt
+rcnm-there s at = ap (λ (i : ℕ). byteAt s i) (add-zero (idAt s at))
+
+-- ---- a vector or a feature of a file in which nothing was refused
+module _ (update : Bool) (s : List ℕ) (n k : ℕ) (framed : frameOf s ≡ Records n) (less : k < n) (here : Here update (describedOf s) s k) where
+  at-record : RecordIn s (recordAt s k)
+  at-record = record-in s n k (recordAt s k) framed less refl
+
+  laid-here : Laid update (here .good .state .stage) (describedOf s) s (recordAt s k)
+  laid-here = laid update (here .good .state .stage) (describedOf s) s (recordAt s k) at-record (here .good .laid)
+
+  out-here : LaidOut s (recordAt s k)
+  out-here = laid-record n k laid-here framed less refl
+
+  vector-here : kindAt s (recordAt s k) 1 ≡ VRID → rcnmAt s (recordAt s k) ≡ 100 → ⊥
+  unfolding isVector
+  vector-here e is =
+      let st = here .good .state in
+      let two = laid-here .two in
+      let f = fair update (st .aall) (st .nall) s (recordAt s k) at-record (here .good .valued) 1 (omega arith) in
+      let good = vrid-good update (contentAt s (recordAt s k) 1) (fair-vrid _ e f) in
+      let long = full-vrid (contentAt s (recordAt s k) 1) (rw e at (laid-here .full 1 (omega arith))) in
+      let size = content-length s (recordAt s k) 1 at-record (omega arith) in
+      let byte : byteAt (contentAt s (recordAt s k) 1) 0 ≡ rcnmAt s (recordAt s k) =
+      part-byte s (idAt s (recordAt s k)) (fieldAt s (recordAt s k) 1 .length - 1) 0 (omega arith) ∙ rcnm-there s (recordAt s k) in
+      let named : isVector 100 ≡ true = rw (byte ∙ is) at (good .rcnm) in
+      let z : _≡_ {A = ℕ} 0 1 = cc in
+      omega arith
+
+  identified : 2 ≤ here .good .state .stage → Identified s (recordAt s k)
+  identified two =
+      let few = here .stage .few in
+      let feature : kindAt s (recordAt s k) 1 ≡ FRID → Identified s (recordAt s k) = λ (e : kindAt s (recordAt s k) 1 ≡ FRID). feature-identified s (recordAt s k) out-here (laid-featured laid-here out-here e) in
+      ⊎-elim (λ (e2 : here .good .state .stage ≡ 2).
+      ⊎-elim (λ (v : kindAt s (recordAt s k) 1 ≡ VRID). vector-identified s (recordAt s k) out-here v (vector-here v)) feature (laid-item laid-here e2))
+      (λ (other : here .good .state .stage ≡ 2 → ⊥). feature (laid-late laid-here (omega arith)))
+      (eq-or-ne (here .good .state .stage) 2)
+
+-- all of them
+readable-items : (update : Bool) (s : List ℕ) (n : ℕ) → frameOf s ≡ Records n → ((j : ℕ) → 1 ≤ j → j < n → Here update (describedOf s) s j)
+    → (k : ℕ) → firstItem update ≤ k → k < n → LaidOut s (recordAt s k) × Identified s (recordAt s k)
+unfolding firstItem
+readable-items true s n framed here k low less =
+    let h = here k (omega arith) less in
+    let two : 2 ≤ h .good .state .stage = ⊎-elim (λ (e : k ≡ 2). h .stage .early e refl) (λ (o : k ≡ 2 → ⊥). h .stage .items (omega arith)) (eq-or-ne k 2) in
+    (out-here true s n k framed less h, identified true s n k framed less h two)
+readable-items false s n framed here k low less =
+    let h = here k (omega arith) less in
+    (out-here false s n k framed less h, identified false s n k framed less h (h .stage .items low))
+
+first-few : (update : Bool) (n : ℕ) → (update ≡ false → 3 ≤ n) → 2 ≤ n → firstItem update ≤ n
+unfolding firstItem
+first-few true n cell two = two
+first-few false n cell two = cell refl
+
+pub readable : (update : Bool) (s : List ℕ) (n : ℕ) → frameOf s ≡ Records n → length s ≤ 5242880 → readFault update s n .code ≡ 0 → Readable update s n
+readable update s n framed short none =
+    let g = good-records update s n framed none in
+    record {
+      framed = framed;
+      short = short;
+      head = first-few update n (g .1 .0) (g .1 .1);
+      items = readable-items update s n framed (g .0);
+    }
+
+-- DSSI of a cell
+pub dssi-there : (s : List ℕ) (n : ℕ) → frameOf s ≡ Records n → readFault false s n .code ≡ 0 → DssiThere s
+dssi-there s n framed none =
+    let g = good-records false s n framed none in
+    let two = g .1 .1 in
+    let one : 1 < n = omega arith in
+    let h = g .0 1 (omega arith) one in
+    let known = at-record false s n 1 framed one h in
+    let l = laid-here false s n 1 framed one h in
+    let d = laid-dsid l (h .stage .dsid refl) in
+    let three : 3 ≤ countAt s (recordAt s 1) = let q = d .0 in omega arith in
+    let size = full-dssi (contentAt s (recordAt s 1) 2) (rw (d .2) at (l .full 2 (omega arith))) in
+    let long = content-length s (recordAt s 1) 2 known (omega arith) in
+    let within = known .fields 2 (omega arith) .within in
+    let fits = known .framed .fits in
+    record { framed = known .framed; third = three; whole = omega arith }
+
+-- ---- cell_fault and update_fault: one law for each way out
+module _ (s : List ℕ) (n : ℕ) (r : Refusal) (is : r ≡ readFault false s n) where
+  pub cell-read : (r .code ≡ 0 → ⊥) → r ≡ cellFault s n
+  unfolding cellFault
+  cell-read h = is ∙ rw (ne-eqb (readFault false s n .code) 0 (λ z. h (ap (λ (q : Refusal). q .code) is ∙ z)))
+
+  pub cell-none : r .code ≡ 0 → readFault false s n .code ≡ 0
+  cell-none z = ap (λ (q : Refusal). q .code) (sym is) ∙ z
+
+  module _ (z : r .code ≡ 0) (t : Repeat) (told : t ≡ twiceOf false s n) where
+    pub cell-twice : (a : Refusal) → (t .index ≡ 0 → ⊥) → a ≡ refusal 7 (t .index) (t .offset) → a ≡ cellFault s n
+    unfolding cellFault twiceRefusal
+    cell-twice a h e = e ∙ rw (eq-eqb _ _ (cell-none z), ← told, ne-eqb _ _ h)
+
+    module _ (once : t .index ≡ 0) (q : Bool) (counted : q ≡ countsGood s n) where
+      pub cell-counts : (a : Refusal) (p : ℕ) → not q ≡ true → p ≡ endOf s 0 → a ≡ refusal 8 1 p → a ≡ cellFault s n
+      unfolding cellFault twiceRefusal countsRefusal
+      cell-counts a p h at e =
+          e ∙ ap (refusal 8 1) (at ∙ at-next s 0 0 (sym (at-first s))) ∙ rw (eq-eqb _ _ (cell-none z), ← told, eq-eqb _ _ once, told-no q (countsGood s n) counted h)
+
+      pub cell-fine : (a : Refusal) → not q ≡ false → a ≡ refusal 0 0 0 → a ≡ cellFault s n
+      unfolding cellFault twiceRefusal countsRefusal
+      cell-fine a h e = e ∙ rw (eq-eqb _ _ (cell-none z), ← told, eq-eqb _ _ once, told-yes q (countsGood s n) counted h)
+
+module _ (s : List ℕ) (n : ℕ) (r : Refusal) (is : r ≡ readFault true s n) where
+  pub update-read : (r .code ≡ 0 → ⊥) → r ≡ updateFault s n
+  unfolding updateFault
+  update-read h = is ∙ rw (ne-eqb (readFault true s n .code) 0 (λ z. h (ap (λ (q : Refusal). q .code) is ∙ z)))
+
+  pub update-none : r .code ≡ 0 → readFault true s n .code ≡ 0
+  update-none z = ap (λ (q : Refusal). q .code) (sym is) ∙ z
+
+  module _ (z : r .code ≡ 0) (t : Repeat) (told : t ≡ twiceOf true s n) where
+    pub update-twice : (a : Refusal) → (t .index ≡ 0 → ⊥) → a ≡ refusal 7 (t .index) (t .offset) → a ≡ updateFault s n
+    unfolding updateFault twiceRefusal
+    update-twice a h e = e ∙ rw (eq-eqb _ _ (update-none z), ← told, ne-eqb _ _ h)
+
+    pub update-fine : (a : Refusal) → t .index ≡ 0 → a ≡ refusal 0 0 0 → a ≡ updateFault s n
+    unfolding updateFault twiceRefusal
+    update-fine a once e = e ∙ rw (eq-eqb _ _ (update-none z), ← told, eq-eqb _ _ once)

@@ -1,0 +1,23 @@
+-- With and without a refusal.
+use Rattle.reader.proofs.FrontLaws.{filed-none, filed-some}
+use borrow.Author.Needs.{needs}
+use Rattle.reader.proofs.answer.filed.Statement.{statement}
+use Rattle.reader.proofs.answer.filed.Tie as tie
+use Rattle.reader.proofs.answer.filed.Reads as reads
+use Rattle.reader.proofs.answer.filed.Lts as lts
+use Rattle.reader.proofs.answer.answered.Reads as answered-reads
+
+answered-requires : tie.Need-answered-requires
+answered-requires c κs = search needs
+
+returns : tie.Need-returns
+returns c = search (needs, filed-none)
+
+answered-requires-2 : tie.Need-answered-requires-2
+answered-requires-2 c κs = search needs
+
+returns-2 : tie.Need-returns-2
+returns-2 c = search (needs, filed-some)
+
+pub filed-spec : {M : Type 1} → statement M
+filed-spec = tie.close (tie.spec answered-requires returns answered-requires-2 returns-2)

@@ -1,0 +1,75 @@
+-- Codes 4 to 6, then 7, then 8.
+use mathlib.Core.Bool.{true, false}
+use Rattle.iso8211.proofs.Promise.{framed-at, at-start, last-ends}
+use Rattle.reader.proofs.ReaderLaws.{readable, dssi-there, cell-read, cell-none, cell-twice, cell-counts, cell-fine}
+use borrow.Author.Needs.{needs}
+use Rattle.reader.proofs.fault.cell_fault.Statement.{statement}
+use Rattle.reader.proofs.fault.cell_fault.Tie as tie
+use Rattle.reader.proofs.fault.cell_fault.Reads as reads
+use Rattle.reader.proofs.fault.cell_fault.Lts as lts
+use Rattle.chart.proofs.read.read_fault.Reads as read-fault-reads
+use Rattle.chart.proofs.read.refuse.Reads as refuse-reads
+use Rattle.iso8211.proofs.field.record_end.Reads as record-end-reads
+use Rattle.names.proofs.counts.counts_good.Reads as counts-good-reads
+use Rattle.reader.proofs.fault.repeated.Reads as repeated-reads
+
+read-fault-requires : tie.Need-read-fault-requires
+read-fault-requires c κs = search needs
+
+returns : tie.Need-returns
+returns c = cell-read _ _ _ (c .before .read-fault .ensures) (c .if1 .taken)
+
+repeated-requires : tie.Need-repeated-requires
+repeated-requires c κs = ((readable false _ _ (c .before .before .before .before .before .pre .framed) (c .before .before .before .before .before .pre .short) (cell-none _ _ _ (c .before .before .read-fault .ensures) (c .before .if1 .left))), (c .before .before .before .before .before .pre .room))
+
+refuse-requires : tie.Need-refuse-requires
+refuse-requires c κs = search needs
+
+same-length : tie.Need-same-length
+same-length c = search needs
+
+returns-2 : tie.Need-returns-2
+returns-2 c = cell-twice _ _ _ (c .before .before .before .before .before .before .before .read-fault .ensures) (c .before .before .before .before .before .before .if1 .left) _ (c .before .before .before .before .repeated .ensures) _ (c .before .if2 .taken) (c .refuse .ensures)
+
+counts-good-requires : tie.Need-counts-good-requires
+counts-good-requires c κs = ((readable false _ _ (c .before .before .before .before .before .before .before .before .before .pre .framed) (c .before .before .before .before .before .before .before .before .before .pre .short) (cell-none _ _ _ (c .before .before .before .before .before .before .read-fault .ensures) (c .before .before .before .before .before .if1 .left))), dssi-there _ _ (c .before .before .before .before .before .before .before .before .before .pre .framed) (cell-none _ _ _ (c .before .before .before .before .before .before .read-fault .ensures) (c .before .before .before .before .before .if1 .left)))
+
+record-end-requires : tie.Need-record-end-requires
+record-end-requires c κs = framed-at _ _ 0 0 (c .before .before .before .before .before .before .before .before .before .before .before .pre .framed) (last-ends _ _ (c .before .before .before .before .before .before .before .before .before .before .before .pre .framed) .0) (at-start _)
+
+refuse-requires-2 : tie.Need-refuse-requires-2
+refuse-requires-2 c κs = search needs
+
+same-length-2 : tie.Need-same-length-2
+same-length-2 c = search needs
+
+returns-3 : tie.Need-returns-3
+returns-3 c = cell-counts _ _ _ (c .before .before .before .before .before .before .before .before .before .before .read-fault .ensures) (c .before .before .before .before .before .before .before .before .before .if1 .left) _ (c .before .before .before .before .before .before .before .repeated .ensures) (c .before .before .before .before .if2 .left) _ (c .before .before .before .counts-good .ensures) _ _ (c .before .before .if3 .taken) (c .before .record-end .ensures .0) (c .refuse2 .ensures)
+
+refuse-requires-3 : tie.Need-refuse-requires-3
+refuse-requires-3 c κs = search needs
+
+same-length-3 : tie.Need-same-length-3
+same-length-3 c = search needs
+
+returns-4 : tie.Need-returns-4
+returns-4 c = cell-fine _ _ _ (c .before .before .before .before .before .before .before .before .before .read-fault .ensures) (c .before .before .before .before .before .before .before .before .if1 .left) _ (c .before .before .before .before .before .before .repeated .ensures) (c .before .before .before .if2 .left) _ (c .before .before .counts-good .ensures) _ (c .before .if3 .left) (c .refuse3 .ensures)
+
+pub cell-fault-spec : {M : Type 1} → statement M
+cell-fault-spec =
+    tie.close
+    (tie.spec
+    read-fault-requires
+    returns
+    repeated-requires
+    refuse-requires
+    same-length
+    returns-2
+    counts-good-requires
+    record-end-requires
+    refuse-requires-2
+    same-length-2
+    returns-3
+    refuse-requires-3
+    same-length-3
+    returns-4)

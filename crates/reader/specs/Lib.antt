@@ -1,0 +1,2 @@
+-- The notions of `reader`.
+pub mod Reader

@@ -1,0 +1,62 @@
+// Codes 4 to 8 of a framed file.
+ghost use Prim.Native.Nat.{_*_, _≤_};
+ghost use mathlib.Core.Bool.{true, false};
+ghost use mathlib.Core.Path.{_≡_};
+ghost use lib.ListN.{length};
+ghost use Rattle.iso8211.specs.File.{frameOf};
+ghost use Rattle.names.specs.Names.{Readable, twiceOf};
+ghost use Rattle.reader.specs.Reader.{Opened, cellFault, updateFault};
+use chart::Refusal;
+use chart::read::read_fault;
+use chart::read::refuse;
+use iso8211::field::record_end;
+use names::Repeat;
+use names::counts::counts_good;
+use names::order::order;
+use names::twice::twice;
+
+// The first name met twice, found by sorting the names in the work area.
+fn repeated(s: &[u8], n: usize, update: bool, work: &mut [u8]) -> Repeat
+    requires { ⌜ Readable update (now s) n × (16 * n ≤ length (now work)) ⌝ }
+    ensures { λ r. ⌜ r ≡ twiceOf update (now (s .entry)) n ⌝ }
+{
+    order(s, n, update, work);
+    twice(s, n, update, work)
+}
+
+pub fn cell_fault(s: &[u8], n: usize, work: &mut [u8]) -> Refusal
+    requires { ⌜ Opened (now s) n (now work) ⌝ }
+    ensures { λ r. ⌜ r ≡ cellFault (now (s .entry)) n ⌝ }
+{
+    let r = read_fault(s, n, false);
+    let code = r.code;
+    if code != 0 {
+        return r;
+    }
+    let t = repeated(s, n, false, work);
+    let index = t.index;
+    if index != 0 {
+        return refuse(7, index, t.offset);
+    }
+    if !counts_good(s, n) {
+        return refuse(8, 1, record_end(s, 0));
+    }
+    refuse(0, 0, 0)
+}
+
+pub fn update_fault(s: &[u8], n: usize, work: &mut [u8]) -> Refusal
+    requires { ⌜ Opened (now s) n (now work) ⌝ }
+    ensures { λ r. ⌜ r ≡ updateFault (now (s .entry)) n ⌝ }
+{
+    let r = read_fault(s, n, true);
+    let code = r.code;
+    if code != 0 {
+        return r;
+    }
+    let t = repeated(s, n, true, work);
+    let index = t.index;
+    if index != 0 {
+        return refuse(7, index, t.offset);
+    }
+    refuse(0, 0, 0)
+}

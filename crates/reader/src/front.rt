@@ -1,0 +1,45 @@
+// Codes 1 and 2 of a file.
+ghost use Prim.Native.Nat.{_≤_};
+ghost use mathlib.Core.Path.{_≡_};
+ghost use lib.ListN.{length};
+ghost use Rattle.iso8211.specs.File.{recordAt};
+ghost use Rattle.reader.specs.Reader.{Before, frontOf};
+use crate::answer::Answer;
+use crate::answer::answered;
+use iso8211::field::record_end;
+use iso8211::file::Framed;
+use iso8211::file::frame;
+
+// How many records a file has, or the refusal.
+pub enum Front {
+    Count(usize),
+    Refused(Answer),
+}
+
+// Where record k starts, all before it being good.
+fn place(s: &[u8], k: usize) -> usize
+    requires { ⌜ Before (now s) k ⌝ }
+    ensures { λ r. ⌜ r ≡ recordAt (now (s .entry)) k ⌝ }
+{
+    let mut at: usize = 0;
+    let mut j: usize = 0;
+    while j < k {
+        at = record_end(s, at);
+        j += 1;
+    }
+    at
+}
+
+// A file opened: codes 1 and 2.
+pub fn opened(s: &[u8], file: u32) -> Front
+    ensures { λ r. ⌜ r ≡ frontOf file (now (s .entry)) ⌝ }
+{
+    if 5242880 < s.len() {
+        return Front::Refused(answered(1, file, 0, 0, 0));
+    }
+    let framed = frame(s);
+    match framed {
+        Framed::Records(n) => Front::Count(n),
+        Framed::Broken(k) => Front::Refused(answered(2, file, k, 0, place(s, k))),
+    }
+}

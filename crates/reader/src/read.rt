@@ -1,0 +1,90 @@
+// The two calls of reading.
+ghost use mathlib.Core.Path.{_≡_};
+ghost use lib.ListN.{length, replicate};
+ghost use Rattle.reader.specs.Reader.{frontOf, cellChecked, bothChecked, bothAnswer, readCell, readBoth, Short};
+use crate::answer::Answer;
+use crate::answer::answered;
+use crate::answer::filed;
+use crate::fault::cell_fault;
+use crate::fault::update_fault;
+use crate::front::Front;
+use crate::front::opened;
+use octets::area::clear;
+
+// A framed cell of n records: code 3, then 4 to 8.
+fn cell_checked(cell: &[u8], n: usize, work: &mut [u8]) -> Answer
+    requires { ⌜ Short (now cell) n ⌝ }
+    ensures { λ r. ⌜ r ≡ cellChecked (now (cell .entry)) (length (now (work .entry))) n ⌝ }
+{
+    if work.len() < 16 * n {
+        return answered(3, 0, 0, 16 * n, 0);
+    }
+    filed(1, cell_fault(cell, n, work))
+}
+
+// Whether a cell is readable. The work area is zero afterwards.
+pub fn read_cell(cell: &[u8], work: &mut [u8]) -> Answer
+    ensures { λ r. ⌜ r ≡ readCell (now (cell .entry)) (length (now (work .entry))) ⌝ }
+    ensures { λ _. ⌜ now (work .exit) ≡ replicate (length (now (work .entry))) 0 ⌝ }
+{
+    let front = opened(cell, 1);
+    match front {
+        Front::Refused(a) => {
+            clear(work);
+            a
+        }
+        Front::Count(n) => {
+            let a = cell_checked(cell, n, work);
+            clear(work);
+            a
+        }
+    }
+}
+
+// A framed cell of n records and a framed update of m: code 3, then 4 to 8 of the cell, then 4 to 7
+// of the update.
+fn both_checked(cell: &[u8], update: &[u8], n: usize, m: usize, work: &mut [u8]) -> Answer
+    requires { ⌜ Short (now cell) n × Short (now update) m ⌝ }
+    ensures { λ r. ⌜ r ≡ bothChecked (now (cell .entry)) (now (update .entry)) (length (now (work .entry))) n m ⌝ }
+{
+    if work.len() < 16 * (n + m) {
+        return answered(3, 0, 0, 16 * (n + m), 0);
+    }
+    let r = cell_fault(cell, n, work);
+    let code = r.code;
+    if code != 0 {
+        return filed(1, r);
+    }
+    filed(2, update_fault(update, m, work))
+}
+
+// A framed cell of n records, and an update that is still to be opened.
+fn update_opened(cell: &[u8], n: usize, update: &[u8], work: &mut [u8]) -> Answer
+    requires { ⌜ Short (now cell) n ⌝ }
+    ensures { λ r. ⌜ r ≡ bothAnswer (now (cell .entry)) (now (update .entry)) (length (now (work .entry))) n (frontOf 2 (now (update .entry))) ⌝ }
+{
+    let front = opened(update, 2);
+    match front {
+        Front::Refused(a) => a,
+        Front::Count(m) => both_checked(cell, update, n, m, work),
+    }
+}
+
+// Whether a cell and an update are both readable. The work area is zero afterwards.
+pub fn read_both(cell: &[u8], update: &[u8], work: &mut [u8]) -> Answer
+    ensures { λ r. ⌜ r ≡ readBoth (now (cell .entry)) (now (update .entry)) (length (now (work .entry))) ⌝ }
+    ensures { λ _. ⌜ now (work .exit) ≡ replicate (length (now (work .entry))) 0 ⌝ }
+{
+    let front = opened(cell, 1);
+    match front {
+        Front::Refused(a) => {
+            clear(work);
+            a
+        }
+        Front::Count(n) => {
+            let a = update_opened(cell, n, update, work);
+            clear(work);
+            a
+        }
+    }
+}
