@@ -19,7 +19,9 @@ sanitize_frame alone
 sanitize_read alone
 sanitize_judge alone
 compare_frame probe
+compare_read probe
 speed_frame probe
+speed_read probe
 '
 
 # What every program may use: the reader, the generator, and what the programs share.

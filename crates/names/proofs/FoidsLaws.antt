@@ -1,19 +1,19 @@
 -- Laws of words put one behind the other, and of the FOIDs put so. Assumes nothing.
 use Prim.Native.Nat.{ℕ, zero, suc, _+_, _-_, _*_, _^_, _≤_, _<_}
-use mathlib.Core.Bool.{Bool, true, false, cond}
+use mathlib.Core.Bool.{Bool, true, false, cond, _||_, or-true}
 use mathlib.Core.List.{List, [], _∷_, _++_, append-nil, append-assoc}
-use mathlib.Core.Logic.{_⊎_, ⊎-elim}
+use mathlib.Core.Logic.{_⊎_, inl, inr, ⊎-elim}
 use mathlib.Core.Path.{_≡_, refl, sym, ap, _∙_}
-use native.Mathlib.Nat.{add-zero}
 use native.Mathlib.Omega.{arith}
 use lib.Dec.{eqb}
 use lib.ListN.{length, take, drop, length-append}
 use lib.Seq.{take-take, drop-drop}
-use borrow.Author.Tests.{eq-eqb, ne-eqb}
-use Rattle.octets.proofs.Cases.{true-or-false}
+use borrow.Author.Tests.{eq-eqb, ne-eqb, eqb-true}
+use Rattle.octets.proofs.Cases.{true-or-false, eq-or-ne}
 use Rattle.iso8211.specs.Record.{endOf}
 use Rattle.iso8211.specs.File.{recordAt}
-use Rattle.words.specs.Words.{wordAt, wordsIn, putAt}
+use Rattle.words.specs.Words.{wordsIn, putAt}
+use Rattle.words.specs.Order.{isIn}
 use Rattle.words.proofs.WordsLaws.{put-front, put-back, put-same, put-length, words-split, words-front}
 use Rattle.items.specs.Identity.{rcnmAt, foidAt}
 use Rattle.names.specs.Foids.{foidPart, foidsFrom, foidsOf, PutWords}
@@ -83,7 +83,6 @@ pub record GoingWords (a : List ℕ) (start : ℕ) (all : List ℕ) (b : List �
   pub join : all ≡ done ++ rest
 
 pub foids-start : (s : List ℕ) (n at : ℕ) (a : List ℕ) (start : ℕ) → at ≡ recordAt s 3 → GoingWords a start (foidsOf s n) a 0 (foidsFrom (n - 3) s at)
-unfolding foidsOf
 foids-start s n at a start e = record { done = []; put = put-none a start; join = rw e }
 
 foids-next : (m : ℕ) (s : List ℕ) (at : ℕ) → foidsFrom (suc m) s at ≡ foidPart s at ++ foidsFrom m s (endOf s at)
@@ -110,3 +109,42 @@ module _ (s : List ℕ) (n k at : ℕ) {a b : List ℕ} {start count : ℕ} (so 
       let left : n - k ≡ 0 = omega arith in
       let all : foidsOf s n ≡ so .done = so .join ∙ rw (left, foids-none s at) (append-nil (so .done)) in
       rw all (so .put)
+
+-- ---- "an LNAM exactly if no feature has that FOID (several may)": a FOID among the words is a feature's, and each feature's is there
+part-feature : (b : Bool) (v w : ℕ) (l : List ℕ) → isIn w (cond b (v ∷ []) [] ++ l) ≡ true → ((b ≡ true) × (v ≡ w)) ⊎ (isIn w l ≡ true)
+unfolding isIn
+part-feature true v w l h = by (true-or-false (eqb v w)) h
+  where
+    by : (eqb v w ≡ true) ⊎ (eqb v w ≡ false) → (eqb v w || isIn w l) ≡ true → ((true ≡ true) × (v ≡ w)) ⊎ (isIn w l ≡ true)
+    by t = ⊎-elim (λ (e : eqb v w ≡ true). λ h. inl (refl, eqb-true v w e)) (λ (e : eqb v w ≡ false). rw e (λ (h : isIn w l ≡ true). inr h)) t
+part-feature false v w l h = inr h
+
+pub foid-feature : (m : ℕ) (s : List ℕ) (j w : ℕ) → isIn w (foidsFrom m s (recordAt s j)) ≡ true
+    → (k : ℕ) × (j ≤ k) × (k < j + m) × (rcnmAt s (recordAt s k) ≡ 100) × (foidAt s (recordAt s k) ≡ w)
+unfolding foidsFrom foidPart recordAt isIn
+foid-feature zero s j w h = absurd (let z : _≡_ {A = ℕ} 0 1 = cc in omega arith)
+foid-feature (suc m) s j w h =
+    ⊎-elim (λ (t : (eqb (rcnmAt s (recordAt s j)) 100 ≡ true) × (foidAt s (recordAt s j) ≡ w)). (j, omega arith, omega arith, eqb-true _ _ (t .0), t .1))
+    (λ (t : isIn w (foidsFrom m s (recordAt s (suc j))) ≡ true).
+    let r = foid-feature m s (suc j) w t in
+    let low = r .1 in
+    let high = r .2 in
+    (r .0, omega arith, omega arith, r .3, r .4))
+    (part-feature (eqb (rcnmAt s (recordAt s j)) 100) (foidAt s (recordAt s j)) w (foidsFrom m s (recordAt s (suc j))) h)
+
+later-in : (w : ℕ) (xs l : List ℕ) → isIn w l ≡ true → isIn w (xs ++ l) ≡ true
+unfolding isIn
+later-in w [] l h = h
+later-in w (x ∷ xs) l h = rw (later-in w xs l h) (or-true (eqb x w))
+
+feature-first : (s : List ℕ) (at : ℕ) → rcnmAt s at ≡ 100 → (l : List ℕ) → isIn (foidAt s at) (foidPart s at ++ l) ≡ true
+unfolding foidPart isIn
+feature-first s at is l = rw (eq-eqb (rcnmAt s at) 100 is, eq-eqb (foidAt s at) (foidAt s at) refl)
+
+pub feature-foid : (m : ℕ) (s : List ℕ) (j k : ℕ) → j ≤ k → k < j + m → rcnmAt s (recordAt s k) ≡ 100 → isIn (foidAt s (recordAt s k)) (foidsFrom m s (recordAt s j)) ≡ true
+unfolding foidsFrom recordAt
+feature-foid zero s j k low high is = absurd (omega arith)
+feature-foid (suc m) s j k low high is =
+    ⊎-elim (λ (e : j ≡ k). rw e (feature-first s (recordAt s k) is (foidsFrom m s (recordAt s (suc k)))))
+    (λ (ne : j ≡ k → ⊥). later-in (foidAt s (recordAt s k)) (foidPart s (recordAt s j)) (foidsFrom m s (recordAt s (suc j))) (feature-foid m s (suc j) k (omega arith) (omega arith) is))
+    (eq-or-ne j k)

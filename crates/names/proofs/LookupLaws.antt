@@ -1,15 +1,15 @@
 -- Laws of the look-up: where the words before a place have smaller names, the first word of a name is told by the place; and what the
 -- search by halving answers. Assumes nothing.
 use Prim.Native.Nat.{ℕ, zero, suc, _+_, _-_, _*_, _/_, _%_, _≤_, _<_}
-use mathlib.Core.Bool.{Bool, true, false, cond}
+use mathlib.Core.Bool.{true, false, cond}
 use mathlib.Core.List.{List, [], _∷_}
-use mathlib.Core.Logic.{_⊎_, ⊎-elim}
+use mathlib.Core.Logic.{_⊎_, inl, inr, ⊎-elim}
 use mathlib.Core.Path.{_≡_, refl, sym, ap, _∙_}
 use native.Mathlib.Nat.{add-zero, zero-add}
 use native.Mathlib.Omega.{arith}
 use lib.Dec.{eqb}
 use lib.ListN.{length, getD}
-use borrow.Author.Tests.{eq-eqb, ne-eqb, eqb-true, eqb-false}
+use borrow.Author.Tests.{eq-eqb, ne-eqb, eqb-true}
 use Rattle.octets.proofs.Cases.{true-or-false, le-or-lt, eq-or-ne}
 use Rattle.words.specs.Words.{wordAt, wordsIn}
 use Rattle.words.specs.Order.{Sorted, isIn}
@@ -17,7 +17,7 @@ use Rattle.words.specs.Find.{firstFrom}
 use Rattle.words.proofs.WordsLaws.{words-length, words-at}
 use Rattle.words.proofs.FindLaws.{first-before, first-there, found-end, found-here, found-not}
 use Rattle.items.specs.Identity.{nameOf, placeOf}
-use Rattle.names.specs.Lookup.{lookup, indexFrom, indexOf}
+use Rattle.names.specs.Lookup.{lookup, indexFrom, indexOf, foundCode}
 use Rattle.names.specs.declared.lookup.Found.{Found}
 use Rattle.names.specs.declared.lookup.Found.the-variants.{At, Nothing}
 
@@ -86,6 +86,49 @@ lookup-none ws name e = lookup-none-from 0 ws name e
 pub lookup-here : (ws : List ℕ) (name i : ℕ) → indexOf ws name ≡ At i → (i < length ws) × (lookup ws name ≡ At (placeOf (getD ws i 0)))
 unfolding indexOf
 lookup-here ws name i e = let t = lookup-here-from 0 ws name i e in let same : i - 0 ≡ i = omega arith in (rw same at (t .less), rw same at (t .place))
+
+-- ---- what an answer tells
+-- a place is that of a word that has the name
+pub lookup-told : (ws : List ℕ) (name p : ℕ) → lookup ws name ≡ At p → (i : ℕ) × (i < length ws) × (nameOf (getD ws i 0) ≡ name) × (placeOf (getD ws i 0) ≡ p)
+unfolding lookup
+lookup-told [] name p e = absurd (let z : _≡_ {A = ℕ} 0 1 = cc in omega arith)
+lookup-told (w ∷ ws) name p e = by (lookup-told ws name p) (true-or-false (eqb (nameOf w) name)) e
+  where
+    later : (i : ℕ) × (i < length ws) × (nameOf (getD ws i 0) ≡ name) × (placeOf (getD ws i 0) ≡ p)
+        → (i : ℕ) × (i < suc (length ws)) × (nameOf (getD (w ∷ ws) i 0) ≡ name) × (placeOf (getD (w ∷ ws) i 0) ≡ p)
+    later t = (suc (t .0), (let b = t .1 in omega arith), t .2, t .3)
+
+    by : (lookup ws name ≡ At p → (i : ℕ) × (i < length ws) × (nameOf (getD ws i 0) ≡ name) × (placeOf (getD ws i 0) ≡ p))
+        → (eqb (nameOf w) name ≡ true) ⊎ (eqb (nameOf w) name ≡ false) → cond (eqb (nameOf w) name) (At (placeOf w)) (lookup ws name) ≡ At p
+        → (i : ℕ) × (i < suc (length ws)) × (nameOf (getD (w ∷ ws) i 0) ≡ name) × (placeOf (getD (w ∷ ws) i 0) ≡ p)
+    by rest t =
+        ⊎-elim (λ (h : eqb (nameOf w) name ≡ true). rw h (λ (e : At (placeOf w) ≡ At p). (0, omega arith, eqb-true _ _ h, cc)))
+        (λ (h : eqb (nameOf w) name ≡ false). rw h (λ (e : lookup ws name ≡ At p). later (rest e))) t
+
+-- nothing: no word has it
+pub lookup-lost : (ws : List ℕ) (name i : ℕ) → i < length ws → nameOf (getD ws i 0) ≡ name → lookup ws name ≡ Nothing → ⊥
+unfolding lookup
+lookup-lost [] name i h is = λ e. omega arith
+lookup-lost (w ∷ ws) name zero h is = rw (eq-eqb (nameOf w) name is) (λ (e : At (placeOf w) ≡ Nothing). absurd (let z : _≡_ {A = ℕ} 0 1 = cc in omega arith))
+lookup-lost (w ∷ ws) name (suc i) h is = by (lookup-lost ws name i (omega arith) is) (true-or-false (eqb (nameOf w) name))
+  where
+    by : (lookup ws name ≡ Nothing → ⊥) → (eqb (nameOf w) name ≡ true) ⊎ (eqb (nameOf w) name ≡ false)
+        → cond (eqb (nameOf w) name) (At (placeOf w)) (lookup ws name) ≡ Nothing → ⊥
+    by rest t =
+        ⊎-elim (λ (h : eqb (nameOf w) name ≡ true). rw h (λ (e : At (placeOf w) ≡ Nothing). absurd (let z : _≡_ {A = ℕ} 0 1 = cc in omega arith)))
+        (λ (h : eqb (nameOf w) name ≡ false). rw h rest) t
+
+pub found-cases : (r : Found) → (r ≡ Nothing) ⊎ ((p : ℕ) × (r ≡ At p))
+found-cases (At p) = inr (p, refl)
+found-cases Nothing = inl refl
+
+pub code-nothing : foundCode Nothing ≡ 18
+unfolding foundCode
+code-nothing = refl
+
+pub code-at : (p : ℕ) → foundCode (At p) ≡ 0
+unfolding foundCode
+code-at p = refl
 
 -- ---- in sorted words: the first word that is not below the name's least has the name, or none has
 module _ (l : List ℕ) (name k : ℕ) (first : firstFrom (name * 16777216) l ≡ k) where

@@ -47,6 +47,7 @@ pub record DssiThere (s : List ℕ) : Type 0 where
   pub whole : fieldAt s (recordAt s 1) 2 .start + 35 ≤ length s
 
 -- ---- the same in one pass: a tally of the six counts
+-- with a vector of this RCNM
 unfoldable pub withVector : Tally → ℕ → Tally
 withVector t rcnm = record {
   meta = t .meta;
@@ -57,6 +58,7 @@ withVector t rcnm = record {
   edges = t .edges + cond (eqb rcnm 130) 1 0;
 }
 
+-- with a feature of this class
 unfoldable pub withFeature : Tally → ℕ → Tally
 withFeature t objl = record {
   meta = t .meta + cond (isMeta objl) 1 0;

@@ -21,7 +21,7 @@ foidsFrom zero s at = []
 foidsFrom (suc n) s at = foidPart s at ++ foidsFrom n s (endOf s at)
 
 -- those of all features of a cell of n records
-unfoldable pub foidsOf : List ℕ → ℕ → List ℕ
+abbrev pub foidsOf : List ℕ → ℕ → List ℕ
 foidsOf s n = foidsFrom (n - 3) s (recordAt s 3)
 
 -- in `next` the r words from word `start` on are xs, and all other bytes are as they were in `area`

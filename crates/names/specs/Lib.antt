@@ -6,3 +6,4 @@ pub mod Counts
 pub mod Lookup
 pub mod Foids
 pub mod Examples
+pub mod LookupExamples

@@ -17,6 +17,7 @@ unfoldable pub indexFrom : ℕ → List ℕ → ℕ → Found
 indexFrom k [] name = Nothing
 indexFrom k (w ∷ ws) name = cond (eqb (nameOf w) name) (At k) (indexFrom (k + 1) ws name)
 
+-- the index among all words
 unfoldable pub indexOf : List ℕ → ℕ → Found
 indexOf ws name = indexFrom 0 ws name
 

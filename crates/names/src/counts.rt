@@ -1,12 +1,12 @@
 // DSSI's counts against the records of a cell: one pass over the records, then six comparisons.
 ghost use Prim.Native.Nat.{_+_, _≤_};
-ghost use mathlib.Core.Bool.{Bool, true, false, cond};
+ghost use mathlib.Core.Bool.{false, cond};
 ghost use mathlib.Core.Path.{_≡_};
 ghost use lib.ListN.{length};
 ghost use lib.Dec.{eqb};
 ghost use Rattle.octets.specs.Number.{numAt};
 ghost use Rattle.iso8211.specs.Field.{HeadOf};
-ghost use Rattle.iso8211.specs.File.{frameOf, recordAt};
+ghost use Rattle.iso8211.specs.File.{recordAt};
 ghost use Rattle.items.specs.Lists.{LaidOut};
 ghost use Rattle.items.specs.Identity.{Identified};
 ghost use Rattle.names.specs.Names.{Readable};
@@ -32,6 +32,7 @@ pub struct Tally {
     pub edges: u32,
 }
 
+// 1 for a record that is such, 0 for another.
 fn one(is: bool) -> u32
     ensures { λ r. ⌜ (r ≡ cond is 1 0) × (r ≤ 1) ⌝ }
 {
@@ -41,6 +42,7 @@ fn one(is: bool) -> u32
     0
 }
 
+// The tally with a vector of this RCNM.
 fn add_vector(t: Tally, rcnm: u32) -> Tally
     requires { ⌜ AtMost 5242880 t ⌝ }
     ensures { λ r. ⌜ r ≡ withVector t rcnm ⌝ }
@@ -55,6 +57,7 @@ fn add_vector(t: Tally, rcnm: u32) -> Tally
     }
 }
 
+// The tally with a feature of this class.
 fn add_feature(t: Tally, objl: u32) -> Tally
     requires { ⌜ AtMost 5242880 t ⌝ }
     ensures { λ r. ⌜ r ≡ withFeature t objl ⌝ }

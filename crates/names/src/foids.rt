@@ -1,13 +1,12 @@
 // The FOIDs of a cell's features as words in a lent area, for LNAM.
 ghost use Prim.Native.Nat.{_+_, _-_, _*_, _≤_};
 ghost use mathlib.Core.Bool.{false};
-ghost use mathlib.Core.Path.{_≡_};
 ghost use lib.ListN.{length};
 ghost use Rattle.iso8211.specs.Field.{HeadOf};
 ghost use Rattle.items.specs.Lists.{LaidOut};
 ghost use Rattle.items.specs.Identity.{Identified};
 ghost use Rattle.names.specs.Names.{Readable};
-ghost use Rattle.names.specs.Foids.{foidPart, foidsFrom, foidsOf, PutWords};
+ghost use Rattle.names.specs.Foids.{foidPart, foidsOf, PutWords};
 use crate::counts::third_at;
 use iso8211::field::Head;
 use iso8211::field::head_of;

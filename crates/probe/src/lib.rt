@@ -1,5 +1,6 @@
 // The proved code for C programs to call: wrappers that only host tests and benchmarks link. Each
-// takes any bytes of any length. It promises to nobody above; it takes all from `iso8211`.
+// takes any bytes of any length. It promises to nobody above; it takes the framing from `iso8211` and
+// reading whole from `reader`.
 ghost use Prim.Native.Nat.{_+_, _*_, _<_};
 ghost use mathlib.Core.Path.{_≡_};
 ghost use Rattle.iso8211.specs.File.{frameOf};
@@ -11,6 +12,7 @@ use iso8211::formats::write_out;
 
 pub mod described;
 pub mod fields;
+pub mod read;
 
 // How many records the file has, or which is the first bad one, as one number.
 #[no_mangle]

@@ -35,6 +35,7 @@ use Rattle.chart.specs.declared.read.Refusal.{Refusal}
 use Rattle.chart.proofs.Promise.{Here, Good, StageAt, good-records, fair, fair-vrid}
 use Rattle.names.specs.Names.{firstItem, Readable, twiceOf}
 use Rattle.names.specs.Counts.{DssiThere, countsGood}
+use Rattle.names.proofs.ReadableLaws.{dssi-there}
 use Rattle.names.specs.declared.twice.Repeat.{Repeat}
 use Rattle.reader.specs.Reader.{twiceRefusal, countsRefusal, cellFault, updateFault}
 
@@ -105,21 +106,14 @@ readable update s n framed short none =
     }
 
 -- DSSI of a cell
-pub dssi-there : (s : List ℕ) (n : ℕ) → frameOf s ≡ Records n → readFault false s n .code ≡ 0 → DssiThere s
-dssi-there s n framed none =
+pub dssi-read : (s : List ℕ) (n : ℕ) → frameOf s ≡ Records n → readFault false s n .code ≡ 0 → DssiThere s
+dssi-read s n framed none =
     let g = good-records false s n framed none in
     let two = g .1 .1 in
     let one : 1 < n = omega arith in
     let h = g .0 1 (omega arith) one in
-    let known = at-record false s n 1 framed one h in
-    let l = laid-here false s n 1 framed one h in
-    let d = laid-dsid l (h .stage .dsid refl) in
-    let three : 3 ≤ countAt s (recordAt s 1) = let q = d .0 in omega arith in
-    let size = full-dssi (contentAt s (recordAt s 1) 2) (rw (d .2) at (l .full 2 (omega arith))) in
-    let long = content-length s (recordAt s 1) 2 known (omega arith) in
-    let within = known .fields 2 (omega arith) .within in
-    let fits = known .framed .fits in
-    record { framed = known .framed; third = three; whole = omega arith }
+    let state = h .stage .dsid refl in
+    dssi-there n framed one (rw state at (laid-here false s n 1 framed one h))
 
 -- ---- cell_fault and update_fault: one law for each way out
 module _ (s : List ℕ) (n : ℕ) (r : Refusal) (is : r ≡ readFault false s n) where

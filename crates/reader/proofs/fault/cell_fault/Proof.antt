@@ -1,7 +1,7 @@
 -- Codes 4 to 6, then 7, then 8.
 use mathlib.Core.Bool.{true, false}
 use Rattle.iso8211.proofs.Promise.{framed-at, at-start, last-ends}
-use Rattle.reader.proofs.ReaderLaws.{readable, dssi-there, cell-read, cell-none, cell-twice, cell-counts, cell-fine}
+use Rattle.reader.proofs.ReaderLaws.{readable, dssi-read, cell-read, cell-none, cell-twice, cell-counts, cell-fine}
 use borrow.Author.Needs.{needs}
 use Rattle.reader.proofs.fault.cell_fault.Statement.{statement}
 use Rattle.reader.proofs.fault.cell_fault.Tie as tie
@@ -32,7 +32,7 @@ returns-2 : tie.Need-returns-2
 returns-2 c = cell-twice _ _ _ (c .before .before .before .before .before .before .before .read-fault .ensures) (c .before .before .before .before .before .before .if1 .left) _ (c .before .before .before .before .repeated .ensures) _ (c .before .if2 .taken) (c .refuse .ensures)
 
 counts-good-requires : tie.Need-counts-good-requires
-counts-good-requires c κs = ((readable false _ _ (c .before .before .before .before .before .before .before .before .before .pre .framed) (c .before .before .before .before .before .before .before .before .before .pre .short) (cell-none _ _ _ (c .before .before .before .before .before .before .read-fault .ensures) (c .before .before .before .before .before .if1 .left))), dssi-there _ _ (c .before .before .before .before .before .before .before .before .before .pre .framed) (cell-none _ _ _ (c .before .before .before .before .before .before .read-fault .ensures) (c .before .before .before .before .before .if1 .left)))
+counts-good-requires c κs = ((readable false _ _ (c .before .before .before .before .before .before .before .before .before .pre .framed) (c .before .before .before .before .before .before .before .before .before .pre .short) (cell-none _ _ _ (c .before .before .before .before .before .before .read-fault .ensures) (c .before .before .before .before .before .if1 .left))), dssi-read _ _ (c .before .before .before .before .before .before .before .before .before .pre .framed) (cell-none _ _ _ (c .before .before .before .before .before .before .read-fault .ensures) (c .before .before .before .before .before .if1 .left)))
 
 record-end-requires : tie.Need-record-end-requires
 record-end-requires c κs = framed-at _ _ 0 0 (c .before .before .before .before .before .before .before .before .before .before .before .pre .framed) (last-ends _ _ (c .before .before .before .before .before .before .before .before .before .before .before .pre .framed) .0) (at-start _)
