@@ -9,7 +9,7 @@ ghost use Rattle.chart.specs.Value.{isAttributes};
 ghost use Rattle.chart.specs.Judged.{PlainJudged, FieldJudged, Full, RecordJudged};
 use attributes::attributes_fault;
 use attributes::ffpt_fault;
-use iso8211::field::field_at;
+use iso8211::field::field_on;
 use iso8211::field::head_of;
 use table::kind_of;
 use values::dsid::dsid_fault;
@@ -84,9 +84,10 @@ pub fn value_fault(
     let count = head.count;
     let mut prev: usize = 20;
     let mut stamp = at as u32;
+    let mut due = at + head.base;
     let mut j: usize = 0;
     while j < count {
-        let f = field_at(s, at, head, j);
+        let f = field_on(s, at, head, j, due);
         let k = kind_of(f.tag);
         stamp = stamp_of(prev == k, stamp, (at + j + 1) as u32);
         let from = f.start;
@@ -96,6 +97,7 @@ pub fn value_fault(
             return from + (fault - 1);
         }
         prev = k;
+        due = from + f.length;
         j += 1;
     }
     0

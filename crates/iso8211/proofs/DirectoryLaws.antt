@@ -16,7 +16,8 @@ use Rattle.octets.proofs.Tests.{tests}
 use Rattle.iso8211.specs.Directory.{tagAt, rowAt, rowWidth, rows, len, position}
 use Rattle.iso8211.specs.Record.{fieldGood, inRow, onward, StepWithin, RowStep, BatchStep}
 use Rattle.iso8211.specs.Leader.{baseAt, lengthDigits, positionDigits}
-use Rattle.iso8211.specs.Field.{countAt, directoryAt, fieldAt, FramedAt, Rowed}
+use Rattle.iso8211.specs.Field.{countAt, directoryAt, fieldAt, FramedAt, Rowed, Due}
+use Rattle.iso8211.specs.declared.field.Field.{Field}
 use Rattle.iso8211.specs.declared.directory.Step.{Step}
 use Rattle.iso8211.specs.declared.directory.Step.the-variants.{On, Bad}
 
@@ -188,3 +189,12 @@ pub field-is : (s : List ℕ) (at base l p i k : ℕ) (row : List ℕ) → row �
 unfolding fieldAt directoryAt
 field-is s at base l p i k row e f g r =
     rw (g, rows-row (countAt s at) k s (lengthDigits s at) (positionDigits s at) (at + 24) (r .below), ← r .lengths, ← r .positions, ← f, ← e)
+
+-- the same where its start is known
+pub field-on-is : (s : List ℕ) (at l p i k t n start : ℕ) → Rowed s at l p k → i ≡ at + 24 + k * rowWidth l p → t ≡ tagAt s i → Number s (i + 4) l n → Due s at k start
+    → record { tag = t; start = start; length = n } ≡ fieldAt s at k
+unfolding rowAt
+field-on-is s at l p i k t n start r place is long due =
+    let whole = field-is s at (baseAt s at) l p i k (rowAt s l p i) refl place refl r in
+    let there = due .is (r .below) ∙ ap (λ (f : Field). f .start) (sym whole) in
+    rw (is, long .is, there) whole

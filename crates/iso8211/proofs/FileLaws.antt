@@ -66,6 +66,21 @@ module _ (s : List ℕ) (at k e : ℕ) (so : frameOf s ≡ framedFrom (suc (leng
       ∙ ap (λ (x : ℕ). framedFrom (length s - k) s x (k + 1)) (sym (g .1)) ∙ ap (λ (n : ℕ). framedFrom n s e (k + 1)) fuel
 
 -- ---- fuel beyond the bytes left changes nothing
+pub fuel-same : (f g : ℕ) (s : List ℕ) (at k : ℕ) → length s - at < f → length s - at < g → framedFrom f s at k ≡ framedFrom g s at k
+unfolding framedFrom
+fuel-same zero g s at k a b = absurd (omega arith)
+fuel-same (suc f) zero s at k a b = absurd (omega arith)
+fuel-same (suc f) (suc g) s at k a b =
+    ⊎-elim (λ (good : recordGood (eqb k 0) s at ≡ true).
+    let past = end-past (eqb k 0) s at good in
+    let fits = record-framed (eqb k 0) s at good .fits in
+    rw (good, fuel-same f g s (endOf s at) (k + 1) (omega arith) (omega arith)))
+    (λ (bad : recordGood (eqb k 0) s at ≡ false). rw bad) (true-or-false (recordGood (eqb k 0) s at))
+
+-- ---- there is one verdict
+pub frame-only : (s : List ℕ) (r q : Framed) → r ≡ frameOf s → q ≡ frameOf s → r ≡ q
+frame-only s r q e f = e ∙ sym f
+
 -- out of a verdict: the record is good, and it is the last or the rest has the verdict
 pub apart : (good last : Bool) (k n : ℕ) (on : Framed) → cond good (cond last (Records (k + 1)) on) (Broken k) ≡ Records n
     → (good ≡ true) × (((last ≡ true) × (k + 1 ≡ n)) ⊎ ((last ≡ false) × (on ≡ Records n)))

@@ -17,8 +17,9 @@ use Rattle.octets.proofs.Tests.{both, all4}
 use Rattle.iso8211.specs.Leader.{sizeAt, baseAt, lengthDigits, positionDigits}
 use Rattle.iso8211.specs.Directory.{rows, len, position}
 use Rattle.iso8211.specs.Record.{fieldGood, inRow, recordGood, endOf}
-use Rattle.iso8211.specs.Field.{countAt, directoryAt, fieldAt, FramedAt, FieldIn, RecordIn}
+use Rattle.iso8211.specs.Field.{countAt, directoryAt, fieldAt, FramedAt, FieldIn, RecordIn, Due}
 use Rattle.iso8211.specs.File.{framedFrom, frameOf, recordAt}
+use Rattle.iso8211.specs.declared.field.Field.{Field}
 use Rattle.iso8211.specs.declared.file.Framed.{Framed}
 use Rattle.iso8211.specs.declared.file.Framed.the-variants.{Records, Broken}
 use Rattle.iso8211.proofs.DirectoryLaws.{rows-length}
@@ -153,9 +154,60 @@ field-in s n k at j v h e less =
       ends = rw (add-assoc (at + baseAt s at) (position (getD es j [])) (len (getD es j []))) (facts .2);
     }
 
+-- "Field positions start at 0, follow without gaps"
+row-next : (s : List ℕ) (body size due : ℕ) (es : List (List ℕ)) (j : ℕ) → inRow s body size es due ≡ true → j + 1 < length es
+    → position (getD es (suc j) []) ≡ position (getD es j []) + len (getD es j [])
+unfolding inRow fieldGood
+row-next s body size due [] j v h = absurd (omega arith)
+row-next s body size due (e ∷ []) zero v h = absurd (omega arith)
+row-next s body size due (e ∷ f ∷ es) zero v h =
+    let p = both _ (inRow s body size (f ∷ es) (due + len e)) v in
+    let here = all4 (eqb (position e) due) (leb 1 (len e)) (leb (due + len e) size) _ (p .0) in
+    let q = both _ (inRow s body size es (due + len e + len f)) (p .1) in
+    let next = all4 (eqb (position f) (due + len e)) (leb 1 (len f)) (leb (due + len e + len f) size) _ (q .0) in
+    let at : position e ≡ due = eqb-true _ _ (here .0) in
+    eqb-true _ _ (next .0) ∙ rw at
+row-next s body size due (e ∷ es) (suc j) v h =
+    let p = both (eqb (position e) due && (leb 1 (len e) && (leb (due + len e) size && eqb (byteAt s (body + (due + len e) - 1)) 30))) (inRow s body size es (due + len e)) v in
+    row-next s body size (due + len e) es j (p .1) (omega arith)
+
+row-first : (s : List ℕ) (body size due : ℕ) (es : List (List ℕ)) → inRow s body size es due ≡ true → 0 < length es → position (getD es 0 []) ≡ due
+unfolding inRow fieldGood
+row-first s body size due [] v h = absurd (omega arith)
+row-first s body size due (e ∷ es) v h =
+    let p = both _ (inRow s body size es (due + len e)) v in
+    eqb-true _ _ (all4 (eqb (position e) due) (leb 1 (len e)) (leb (due + len e) size) _ (p .0) .0)
+
+-- the first field starts at the base address
+field-first : (s : List ℕ) (n k at : ℕ) → frameOf s ≡ Records n → k < n → at ≡ recordAt s k → fieldAt s at 0 .start ≡ at + baseAt s at
+unfolding fieldAt
+field-first s n k at v h e =
+    let row = record-row (eqb k 0) s at (rw e (good-at s n k v h)) in
+    let some = framed-at s n k at v h e .some in
+    let z : position (getD (directoryAt s at) 0 []) ≡ 0 = row-first s (at + baseAt s at) (sizeAt s at - baseAt s at) 0 (directoryAt s at) row (rw (directory-length s at) some) in
+    omega arith
+
+-- each field starts where the one before it ends
+pub field-next : (s : List ℕ) (n k at j : ℕ) → frameOf s ≡ Records n → k < n → at ≡ recordAt s k → j + 1 < countAt s at
+    → fieldAt s at (j + 1) .start ≡ fieldAt s at j .start + fieldAt s at j .length
+unfolding fieldAt
+field-next s n k at j v h e less =
+    let row = record-row (eqb k 0) s at (rw e (good-at s n k v h)) in
+    let next = row-next s (at + baseAt s at) (sizeAt s at - baseAt s at) 0 (directoryAt s at) j row (rw (directory-length s at) less) in
+    rw (add-one j) (omega arith)
+
 -- each record with its fields
 pub record-in : (s : List ℕ) (n k at : ℕ) → frameOf s ≡ Records n → k < n → at ≡ recordAt s k → RecordIn s at
 record-in s n k at v h e = record {
   framed = framed-at s n k at v h e;
   fields = λ (j : ℕ) (less : j < countAt s at). field-in s n k at j v h e less;
+  front = field-first s n k at v h e;
+  gapless = λ (j : ℕ) (less : j + 1 < countAt s at). field-next s n k at j v h e less;
 }
+
+-- ---- a walk over the fields of a record: where each starts
+pub due-first : {s : List ℕ} {at : ℕ} (x : ℕ) → RecordIn s at → x ≡ at + baseAt s at → Due s at 0 x
+due-first x known e = record { is = λ h. e ∙ sym (known .front) }
+
+pub due-next : {s : List ℕ} {at : ℕ} (j : ℕ) (f : Field) → RecordIn s at → f ≡ fieldAt s at j → Due s at (j + 1) (f .start + f .length)
+due-next {s} {at} j f known e = record { is = λ h. rw e (sym (known .gapless j h)) }

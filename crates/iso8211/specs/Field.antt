@@ -59,7 +59,13 @@ pub record Rowed (s : List ℕ) (at l p k : ℕ) : Type 0 where
   pub positions : p ≡ positionDigits s at
   pub below : k < countAt s at
 
--- what is known of a record whose framing is good, and of each of its fields
+-- what is known of a record whose framing is good, and of its fields: "Field positions start at 0, follow without gaps"
 pub record RecordIn (s : List ℕ) (at : ℕ) : Type 0 where
   pub framed : FramedAt s at
   pub fields : (j : ℕ) → j < countAt s at → FieldIn s at (fieldAt s at j)
+  pub front : fieldAt s at 0 .start ≡ at + baseAt s at
+  pub gapless : (j : ℕ) → j + 1 < countAt s at → fieldAt s at (j + 1) .start ≡ fieldAt s at j .start + fieldAt s at j .length
+
+-- x is where field j starts, if there is one
+pub record Due (s : List ℕ) (at j x : ℕ) : Type 0 where
+  pub is : j < countAt s at → x ≡ fieldAt s at j .start

@@ -4,8 +4,9 @@ ghost use mathlib.Core.Path.{_≡_};
 ghost use lib.ListN.{length};
 ghost use Rattle.iso8211.specs.Directory.{rowWidth};
 ghost use Rattle.iso8211.specs.Record.{endOf};
-ghost use Rattle.iso8211.specs.Field.{countAt, fieldAt, FramedAt, HeadOf, Rowed};
+ghost use Rattle.iso8211.specs.Field.{countAt, fieldAt, FramedAt, HeadOf, Rowed, Due};
 use crate::directory::row_at;
+use crate::directory::tag_at;
 use crate::record::digit_at;
 use octets::digits::get_digits;
 
@@ -71,4 +72,18 @@ pub fn field_at(s: &[u8], at: usize, h: Head, k: usize) -> Field
         start: at + base + row[2] as usize,
         length: row[1] as usize,
     }
+}
+
+// The same where it is known already where the field starts, as in a walk over all fields: its
+// position needs no reading.
+pub fn field_on(s: &[u8], at: usize, h: Head, k: usize, start: usize) -> Field
+    requires { ⌜ HeadOf (now s) at h × ((k < countAt (now s) at) × Due (now s) at k start) ⌝ }
+    ensures { λ r. ⌜ r ≡ fieldAt (now (s .entry)) at k ⌝ }
+{
+    let l = h.lengths;
+    let p = h.positions;
+    let i = row_place(s, at, l, p, k);
+    let tag = tag_at(s, i);
+    let length = get_digits(s, i + 4, l) as usize;
+    Field { tag, start, length }
 }

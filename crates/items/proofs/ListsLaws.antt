@@ -135,7 +135,7 @@ module _ (s : List ℕ) (at k : ℕ) (laid : LaidOut s at) where
       rw (append-nil (partAt s at k j)) (omega (arith, part-short s at k j))
   join-short (suc n) j e =
       let rest = join-short n (j + 1) (omega arith) in
-      let next = laid .gapless j (omega arith) in
+      let next = laid .inside .gapless j (omega arith) in
       rw (length-append (partAt s at k j)) (omega (arith, part-short s at k j))
 
   pub list-short : length (listAt s at k) ≤ sizeAt s at

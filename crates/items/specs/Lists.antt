@@ -33,7 +33,6 @@ pub record LaidOut (s : List ℕ) (at : ℕ) : Type 0 where
   pub inside : RecordIn s at
   pub two : 2 ≤ countAt s at
   pub fills : (j : ℕ) → j < countAt s at → filled (kindAt s at j) (contentAt s at j) ≡ true
-  pub gapless : (j : ℕ) → j + 1 < countAt s at → fieldAt s at (j + 1) .start ≡ fieldAt s at j .start + fieldAt s at j .length
 
 -- such a record with its head, and a kind of field that is a list
 pub record Listed (s : List ℕ) (at : ℕ) (h : Head) (k : ℕ) : Type 0 where

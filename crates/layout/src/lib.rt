@@ -16,7 +16,7 @@ use crate::place::START;
 use crate::place::may_end;
 use crate::place::placed;
 use iso8211::field::Field;
-use iso8211::field::field_at;
+use iso8211::field::field_on;
 use iso8211::field::head_of;
 use iso8211::field::record_end;
 use table::kind_of;
@@ -48,13 +48,15 @@ pub fn layout_fault(s: &[u8], at: usize, marks: &[u8], update: bool, stage: usiz
     let head = head_of(s, at);
     let count = head.count;
     let mut prev: usize = START;
+    let mut due = at + head.base;
     let mut j: usize = 0;
     while j < count {
-        let f = field_at(s, at, head, j);
+        let f = field_on(s, at, head, j, due);
         if !field_laid(s, marks, update, stage, prev, f) {
             return f.start;
         }
         prev = kind_of(f.tag);
+        due = f.start + f.length;
         j += 1;
     }
     if !may_end(prev) {

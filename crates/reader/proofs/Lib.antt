@@ -2,3 +2,4 @@
 pub mod FrontLaws
 pub mod ReaderLaws
 pub mod CallLaws
+pub mod Only

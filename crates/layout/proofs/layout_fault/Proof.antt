@@ -1,25 +1,40 @@
--- The invariant: the fault of the record is the fault of the fields from here on.
+-- The invariant: the fault of the record is the fault of the fields from here on, the next field starting where it is due.
 use Prim.Native.Nat.{_-_, _≤_}
 use mathlib.Core.Path.{_≡_}
-use borrow.Author.Needs.{needs}
-use Rattle.iso8211.specs.Field.{countAt}
+use native.Mathlib.Omega.{arith}
+use Rattle.iso8211.specs.Field.{countAt, Due}
+use Rattle.iso8211.proofs.Promise.{due-first, due-next}
 use Rattle.layout.specs.Layout.{layoutFault, laidFrom}
 use Rattle.layout.proofs.LayoutLaws.{field-fits, field-long, start-within, laid-start, turn-wrong, turn-on, end-missing, end-good}
+use borrow.Author.Needs.{needs}
 use Rattle.layout.proofs.layout_fault.Statement.{statement}
 use Rattle.layout.proofs.layout_fault.Tie as tie
+use Rattle.layout.proofs.layout_fault.Reads as reads
+use Rattle.layout.proofs.layout_fault.Lts as lts
+use Rattle.iso8211.proofs.field.field_on.Reads as field-on-reads
+use Rattle.iso8211.proofs.field.head_of.Reads as head-of-reads
+use Rattle.iso8211.proofs.field.record_end.Reads as record-end-reads
+use Rattle.layout.proofs.field_laid.Reads as field-laid-reads
+use Rattle.layout.proofs.place.may_end.Reads as may-end-reads
+use Rattle.table.proofs.kind_of.Reads as kind-of-reads
 
 abbrev Inv-loop : tie.InvT-loop
-Inv-loop s at marks update stage head count prev₀ j₀ prev j =
-    (count ≡ countAt s at) × (j ≤ count) × (layoutFault update stage marks s at ≡ laidFrom (countAt s at - j) update stage marks s at j prev)
+Inv-loop s at marks update stage head count prev₀ due₀ j₀ prev due j = (count ≡ countAt s at) × (j ≤ count) × Due s at j due × (layoutFault update stage marks s at ≡ laidFrom (countAt s at - j) update stage marks s at j prev)
 
 abbrev μ-loop : tie.MeasureT-loop
-μ-loop s at marks update stage head count prev₀ j₀ prev j = count - j
+μ-loop s at marks update stage head count prev₀ due₀ j₀ prev due j = count - j
+
+head-of-requires : tie.Need-head-of-requires Inv-loop μ-loop
+head-of-requires c κs = search needs
+
+add-due : tie.Need-add-due Inv-loop μ-loop
+add-due c = let h = (c .before .head-of .ensures .base) in let high = (c .before .before .before .before .pre .0 .framed .high) in let fits = (c .before .before .before .before .pre .0 .framed .fits) in omega arith
 
 loop-holds : tie.Need-loop-holds Inv-loop μ-loop
-loop-holds c = (search needs, search needs, search (needs, laid-start))
+loop-holds c = (search needs, search needs, due-first _ (c .before .before .before .before .pre .0) (omega arith), search (needs, laid-start))
 
-field-at-requires : tie.Need-field-at-requires Inv-loop μ-loop
-field-at-requires c κs = (search needs, search needs)
+field-on-requires : tie.Need-field-on-requires Inv-loop μ-loop
+field-on-requires c κs = (c .before .before .before .head-of .ensures, (omega arith, c .before .loop .inv .2))
 
 field-laid-requires : tie.Need-field-laid-requires Inv-loop μ-loop
 field-laid-requires c κs = (search (needs, field-fits), search (needs, field-long), search needs)
@@ -27,8 +42,26 @@ field-laid-requires c κs = (search (needs, field-fits), search (needs, field-lo
 returns : tie.Need-returns Inv-loop μ-loop
 returns c = (search (needs, turn-wrong), search (needs, start-within))
 
+kind-of-requires : tie.Need-kind-of-requires Inv-loop μ-loop
+kind-of-requires c κs = search needs
+
+add-due-2 : tie.Need-add-due-2 Inv-loop μ-loop
+add-due-2 c = omega (arith, field-fits _ _ _ _ (c .before .before .before .before .before .before .before .before .before .before .before .pre .0) (c .before .before .before .before .before .before .loop .inv .0) (c .before .before .before .before .before .loop-test .taken) _ (c .before .before .before .before .field-on .ensures))
+
+add-j : tie.Need-add-j Inv-loop μ-loop
+add-j c = search needs
+
+loop-less : tie.Need-loop-less Inv-loop μ-loop
+loop-less c = search needs
+
 loop-again : tie.Need-loop-again Inv-loop μ-loop
-loop-again c = (search needs, search needs, search (needs, turn-on))
+loop-again c = ((c .before .before .before .before .before .before .loop .inv .0), omega arith, due-next _ _ (c .before .before .before .before .before .before .before .before .before .before .before .pre .0) (c .before .before .before .before .field-on .ensures), turn-on _ _ _ _ _ _ _ _ (c .before .before .before .before .before .before .loop .inv .0) (c .before .before .before .before .before .before .loop .inv .3) (c .before .before .before .before .before .loop-test .taken) _ (c .before .before .before .before .field-on .ensures) _ (c .before .before .before .field-laid .ensures) _ (c .before .kind-of .ensures .0) (c .before .before .if1 .left))
+
+may-end-requires : tie.Need-may-end-requires Inv-loop μ-loop
+may-end-requires c κs = search needs
+
+record-end-requires : tie.Need-record-end-requires Inv-loop μ-loop
+record-end-requires c κs = search needs
 
 returns-2 : tie.Need-returns-2 Inv-loop μ-loop
 returns-2 c = (search (needs, end-missing), search needs)
@@ -42,16 +75,18 @@ layout-fault-spec =
     (tie.spec
     Inv-loop
     μ-loop
-    (λ c κs. search needs)
+    head-of-requires
+    add-due
     loop-holds
-    field-at-requires
+    field-on-requires
     field-laid-requires
     returns
-    (λ c κs. search needs)
-    (λ c. search needs)
-    (λ c. search needs)
+    kind-of-requires
+    add-due-2
+    add-j
+    loop-less
     loop-again
-    (λ c κs. search needs)
-    (λ c κs. search needs)
+    may-end-requires
+    record-end-requires
     returns-2
     returns-3)

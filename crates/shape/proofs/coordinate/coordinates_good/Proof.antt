@@ -1,0 +1,26 @@
+-- Pairs, then soundings.
+use Rattle.octets.proofs.Tests.{chain}
+use Rattle.shape.specs.Shape.{coordinatesGood}
+use Rattle.items.proofs.KindLaws.{sg2d-list, sg3d-list}
+use Rattle.shape.proofs.ShapeLaws.{sg2d-wide, sg3d-wide}
+use borrow.Author.Needs.{needs}
+use Rattle.shape.proofs.coordinate.coordinates_good.Statement.{statement}
+use Rattle.shape.proofs.coordinate.coordinates_good.Tie as tie
+
+pairs-good-requires : tie.Need-pairs-good-requires
+pairs-good-requires c κs = search (needs, sg2d-list, sg2d-wide)
+
+returns : tie.Need-returns
+unfolding coordinatesGood
+returns c = search chain
+
+pairs-good-requires-2 : tie.Need-pairs-good-requires-2
+pairs-good-requires-2 c κs = search (needs, sg3d-list, sg3d-wide)
+
+returns-2 : tie.Need-returns-2
+unfolding coordinatesGood
+returns-2 c = search chain
+
+pub coordinates-good-spec : {M : Type 1} → statement M
+coordinates-good-spec =
+    tie.close (tie.spec pairs-good-requires returns pairs-good-requires-2 returns-2)

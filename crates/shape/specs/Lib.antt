@@ -1,0 +1,3 @@
+-- The notions of `shape`, in the order in which a reader should meet them.
+pub mod Shape
+pub mod Examples

@@ -1,0 +1,72 @@
+// Coordinates and their limits.
+ghost use Prim.Native.Nat.{_≤_};
+ghost use mathlib.Core.Path.{_≡_};
+ghost use lib.ListN.{length};
+ghost use Rattle.entries.specs.Rules.{allOf};
+ghost use Rattle.table.specs.Table.{rowOf};
+ghost use Rattle.iso8211.specs.Field.{HeadOf};
+ghost use Rattle.items.specs.Lists.{entriesAt, LaidOut, Listed};
+ghost use Rattle.shape.specs.Shape.{magnitude, pairGood, coordinatesGood};
+use iso8211::field::Head;
+use items::Next;
+use items::cursor::begin;
+use items::step::next;
+use octets::number::get4;
+
+// The lists' numbers in the table.
+pub const SG2D: usize = 8;
+
+pub const SG3D: usize = 9;
+
+// How far from 0 a signed number of four bytes is.
+fn magnitude_of(u: u32) -> u64
+    ensures { λ r. ⌜ r ≡ magnitude u ⌝ }
+{
+    let wide = u as u64;
+    if wide < 2147483648 {
+        return wide;
+    }
+    4294967296 - wide
+}
+
+// Whether Y and X of a pair or a sounding are within their limits.
+fn pair_good(e: &[u8], comf: u32) -> bool
+    requires { ⌜ (8 ≤ length (now e)) × (comf ≤ 10000000) ⌝ }
+    ensures { λ r. ⌜ r ≡ pairGood comf (now (e .entry)) ⌝ }
+{
+    let degree = comf as u64;
+    let y = magnitude_of(get4(e, 0));
+    if 90 * degree < y {
+        return false;
+    }
+    let x = magnitude_of(get4(e, 4));
+    x <= 180 * degree
+}
+
+// Whether those of the list of kind k, pairs or soundings, all are.
+fn pairs_good(s: &[u8], at: usize, h: Head, k: usize, comf: u32) -> bool
+    requires { ⌜ Listed (now s) at h k × (8 ≤ rowOf k .fixed) × (comf ≤ 10000000) ⌝ }
+    ensures { λ r. ⌜ r ≡ allOf (pairGood comf) (entriesAt (now (s .entry)) at k) ⌝ }
+{
+    let mut c = begin();
+    loop {
+        let Next::Entry(from, to, after) = next(s, at, h, k, c) else {
+            return true;
+        };
+        if !pair_good(&s[from..to], comf) {
+            return false;
+        }
+        c = after;
+    }
+}
+
+// Whether all coordinates of the record are.
+pub fn coordinates_good(s: &[u8], at: usize, h: Head, comf: u32) -> bool
+    requires { ⌜ LaidOut (now s) at × HeadOf (now s) at h × (comf ≤ 10000000) ⌝ }
+    ensures { λ r. ⌜ r ≡ coordinatesGood comf (now (s .entry)) at ⌝ }
+{
+    if !pairs_good(s, at, h, SG2D, comf) {
+        return false;
+    }
+    pairs_good(s, at, h, SG3D, comf)
+}

@@ -1,0 +1,60 @@
+// The shape of a feature: a point, a line, an area, or a collection without geometry.
+ghost use mathlib.Core.Path.{_≡_};
+ghost use Rattle.entries.specs.Rules.{allOf};
+ghost use Rattle.table.specs.Table.{FSPT};
+ghost use Rattle.iso8211.specs.Field.{HeadOf};
+ghost use Rattle.items.specs.Lists.{entriesAt, LaidOut, Listed};
+ghost use Rattle.items.specs.Identity.{Featured};
+ghost use Rattle.shape.specs.Shape.{spatialGood, featureGood};
+use crate::spatial::spatial_count;
+use crate::spatial::spatial_good;
+use iso8211::field::Head;
+use items::Next;
+use items::count::count;
+use items::cursor::begin;
+use items::identity::objl_of;
+use items::identity::prim_of;
+use items::step::next;
+use values::class::is_collection;
+
+// The list's number in the table.
+const FSPT: usize = 17;
+
+// Whether each FSPT of the record is one that the primitive wants.
+fn spatials_good(s: &[u8], at: usize, h: Head, prim: u32) -> bool
+    requires { ⌜ Listed (now s) at h FSPT ⌝ }
+    ensures { λ r. ⌜ r ≡ allOf (spatialGood prim) (entriesAt (now (s .entry)) at FSPT) ⌝ }
+{
+    let mut c = begin();
+    loop {
+        let Next::Entry(from, to, after) = next(s, at, h, FSPT, c) else {
+            return true;
+        };
+        if !spatial_good(&s[from..to], prim) {
+            return false;
+        }
+        c = after;
+    }
+}
+
+// Whether a feature has the pointers of its primitive, and none exactly if it is a collection.
+pub fn feature_good(s: &[u8], at: usize, h: Head) -> bool
+    requires { ⌜ LaidOut (now s) at × HeadOf (now s) at h × Featured (now s) at ⌝ }
+    ensures { λ r. ⌜ r ≡ featureGood (now (s .entry)) at ⌝ }
+{
+    let prim = prim_of(s, at, h);
+    let collection = is_collection(objl_of(s, at, h));
+    if prim == 255 {
+        if !collection {
+            return false;
+        }
+        return count(s, at, h, FSPT) == 0;
+    }
+    if collection {
+        return false;
+    }
+    if !spatial_count(prim, count(s, at, h, FSPT)) {
+        return false;
+    }
+    spatials_good(s, at, h, prim)
+}

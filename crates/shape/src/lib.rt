@@ -1,0 +1,30 @@
+// Document 01's Shape of one record: whether a vector has the coordinates and pointers of its class
+// and a feature the pointers of its primitive, and whether what stands in them is allowed. It takes
+// the lists and the identity of a laid-out record from `items`, the collections from `values`.
+ghost use Prim.Native.Nat.{_≤_};
+ghost use mathlib.Core.Path.{_≡_};
+ghost use Rattle.iso8211.specs.Field.{HeadOf};
+ghost use Rattle.items.specs.Lists.{LaidOut};
+ghost use Rattle.items.specs.Identity.{Identified};
+ghost use Rattle.shape.specs.Shape.{shapeGood};
+use feature::feature_good;
+use iso8211::field::Head;
+use items::identity::rcnm_of;
+use vector::vector_good;
+
+pub mod coordinate;
+pub mod feature;
+pub mod spatial;
+pub mod vector;
+
+// Whether the record at `at` has the shape of its class, coordinates being counted in parts of
+// 1 / comf of a degree.
+pub fn shape_good(s: &[u8], at: usize, h: Head, comf: u32) -> bool
+    requires { ⌜ LaidOut (now s) at × HeadOf (now s) at h × Identified (now s) at × (comf ≤ 10000000) ⌝ }
+    ensures { λ r. ⌜ r ≡ shapeGood comf (now (s .entry)) at ⌝ }
+{
+    if rcnm_of(s, at, h) == 100 {
+        return feature_good(s, at, h);
+    }
+    vector_good(s, at, h, comf)
+}
