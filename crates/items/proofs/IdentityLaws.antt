@@ -61,7 +61,7 @@ word-small s at h small = omega (arith, name-small (rcnmAt s at) (rcidAt s at) s
 pub foid-room : (s : List ℕ) (at : ℕ) (f : Field) → Featured s at → f ≡ fieldAt s at 2 → f .start + 8 ≤ length s
 foid-room s at f known e = rw e (known .whole)
 
-num-one : (s : List ℕ) (p : ℕ) → numAt s p 1 ≡ byteAt s p
+pub num-one : (s : List ℕ) (p : ℕ) → numAt s p 1 ≡ byteAt s p
 unfolding numAt
 num-one s p = omega arith
 

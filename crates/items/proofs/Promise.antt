@@ -30,6 +30,11 @@ pub laid-record : {update : Bool} {stage : ℕ} {marks s : List ℕ} {at : ℕ} 
     → frameOf s ≡ Records n → k < n → at ≡ recordAt s k → LaidOut s at
 laid-record {update} {stage} {marks} {s} {at} n k laid v h e = laid-out s n k at v h e (laid .two) (laid .full)
 
+-- a vector's RCNM is not that of a feature
+vector-other : {x : ℕ} → (x ≡ 110) ⊎ ((x ≡ 120) ⊎ (x ≡ 130)) → x ≡ 100 → ⊥
+vector-other {x} t e =
+    ⊎-elim (λ (a : x ≡ 110). omega arith) (λ (o : (x ≡ 120) ⊎ (x ≡ 130)). ⊎-elim (λ (b : x ≡ 120). omega arith) (λ (c : x ≡ 130). omega arith) o) t
+
 -- ---- the identifier fields of a record that is laid out
 module _ (s : List ℕ) (at : ℕ) (laid : LaidOut s at) where
   -- a field of m bytes and its 1E lies in the file
@@ -56,12 +61,18 @@ module _ (s : List ℕ) (at : ℕ) (laid : LaidOut s at) where
   pub featured : kindAt s at 1 ≡ FRID → 3 ≤ countAt s at → kindAt s at 2 ≡ FOID → Featured s at
   featured e third object = record { is = e; long = frid-long e; third = third; object = object; whole = foid-long third object }
 
-  -- a vector's record, whose RCNM is not that of a feature
-  pub vector-identified : kindAt s at 1 ≡ VRID → (rcnmAt s at ≡ 100 → ⊥) → Identified s at
-  vector-identified e other = record { is = inl e; long = vrid-long e; feature = λ (h : rcnmAt s at ≡ 100). absurd (other h) }
+  -- a vector's record, whose RCNM is a vector's
+  pub vector-identified : kindAt s at 1 ≡ VRID → (rcnmAt s at ≡ 110) ⊎ ((rcnmAt s at ≡ 120) ⊎ (rcnmAt s at ≡ 130)) → Identified s at
+  vector-identified e class = record {
+    is = inl e;
+    long = vrid-long e;
+    feature = λ (h : rcnmAt s at ≡ 100). absurd (vector-other class h);
+    class = ⊎-elim (λ (a : rcnmAt s at ≡ 110). inl a)
+        (λ (o : (rcnmAt s at ≡ 120) ⊎ (rcnmAt s at ≡ 130)). inr (⊎-elim (λ (b : rcnmAt s at ≡ 120). inl b) (λ (c : rcnmAt s at ≡ 130). inr (inl c)) o)) class;
+  }
 
-  pub feature-identified : Featured s at → Identified s at
-  feature-identified f = record { is = inr (f .is); long = (let long = f .long in omega arith); feature = λ h. f }
+  pub feature-identified : Featured s at → rcnmAt s at ≡ 100 → Identified s at
+  feature-identified f e = record { is = inr (f .is); long = (let long = f .long in omega arith); feature = λ h. f; class = inr (inr (inr e)) }
 
 -- of a record without a fault of layout
 pub laid-featured : {update : Bool} {stage : ℕ} {marks s : List ℕ} {at : ℕ} → Laid update stage marks s at → LaidOut s at

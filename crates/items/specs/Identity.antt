@@ -65,8 +65,10 @@ pub record Featured (s : List ℕ) (at : ℕ) : Type 0 where
   pub object : kindAt s at 2 ≡ FOID
   pub whole : fieldAt s at 2 .start + 8 ≤ length s
 
--- "Vector: 0001 VRID ..": the eight bytes of VRID, or those of a feature, are there; "100 feature" is no vector's RCNM
+-- "Vector: 0001 VRID ..": the eight bytes of VRID, or those of a feature, are there; "100 feature" is no vector's RCNM; and RCNM is one of
+-- the four
 pub record Identified (s : List ℕ) (at : ℕ) : Type 0 where
   pub is : (kindAt s at 1 ≡ VRID) ⊎ (kindAt s at 1 ≡ FRID)
   pub long : idAt s at + 8 ≤ length s
   pub feature : rcnmAt s at ≡ 100 → Featured s at
+  pub class : (rcnmAt s at ≡ 110) ⊎ ((rcnmAt s at ≡ 120) ⊎ ((rcnmAt s at ≡ 130) ⊎ (rcnmAt s at ≡ 100)))

@@ -2,4 +2,5 @@
 pub mod Lists
 pub mod Cursors
 pub mod Identity
+pub mod Item
 pub mod Examples

@@ -1,5 +1,5 @@
--- Laws of `names`: what the crates above may use is in NamesLaws, NeighboursLaws, ReadableLaws, NamedLaws and LookupLaws; the others are
--- for the proofs of this crate.
+-- Laws of `names`: what the crates above may use is in NamesLaws, NeighboursLaws, ReadableLaws, NamedLaws, LookupLaws and HeldLaws; the
+-- others are for the proofs of this crate.
 pub mod WalkLaws
 pub mod NamesLaws
 pub mod CollectLaws
@@ -8,6 +8,7 @@ pub mod NeighboursLaws
 pub mod TwiceLaws
 pub mod ReadableLaws
 pub mod CountsLaws
+pub mod ComfLaws
 pub mod LookupLaws
 pub mod NamedLaws
-pub mod FoidsLaws
+pub mod HeldLaws

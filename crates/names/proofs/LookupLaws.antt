@@ -16,10 +16,20 @@ use Rattle.words.specs.Order.{Sorted, isIn}
 use Rattle.words.specs.Find.{firstFrom}
 use Rattle.words.proofs.WordsLaws.{words-length, words-at}
 use Rattle.words.proofs.FindLaws.{first-before, first-there, found-end, found-here, found-not}
-use Rattle.items.specs.Identity.{nameOf, placeOf}
-use Rattle.names.specs.Lookup.{lookup, indexFrom, indexOf, foundCode}
+use Rattle.octets.specs.Number.{Reads}
+use Rattle.items.specs.Identity.{rankOf, nameFrom, nameOf, placeOf}
+use Rattle.items.proofs.IdentityLaws.{num-one, name-small}
+use Rattle.names.specs.Lookup.{nameIn, lookup, indexFrom, indexOf, foundCode}
 use Rattle.names.specs.declared.lookup.Found.{Found}
 use Rattle.names.specs.declared.lookup.Found.the-variants.{At, Nothing}
+
+-- ---- the name that an entry starts with: c is its class, g the class's rank
+pub name-in-read : (e : List ℕ) (c g rcid : ℕ) → Reads e 0 1 c → g ≡ rankOf c → Reads e 1 4 rcid → (g * 4294967296 + rcid ≡ nameIn e) × (g * 4294967296 + rcid < 17179869184)
+unfolding nameIn nameFrom
+name-in-read e c g rcid class rank id =
+    let low : rcid < 4294967296 = id .small in
+    let is : g * 4294967296 + rcid ≡ nameFrom c rcid = rw rank in
+    (rw (← num-one e 0, ← class .is, ← id .is, rank), rw is (name-small c rcid low))
 
 -- ---- the index, told by the names
 -- no word has it

@@ -34,7 +34,7 @@ from-at (suc n) s j (suc k) h = from-at n s (suc j) k (omega arith) ∙ rw (suc-
 
 -- a word of the file is a record's
 module _ (update : Bool) (s : List ℕ) (n : ℕ) where
-  word-record : (w : ℕ) → isIn w (sorted (nameWords update s n)) ≡ true → (k : ℕ) × (firstItem update ≤ k) × (k < n) × (wordFor s (recordAt s k) ≡ w)
+  pub word-record : (w : ℕ) → isIn w (sorted (nameWords update s n)) ≡ true → (k : ℕ) × (firstItem update ≤ k) × (k < n) × (wordFor s (recordAt s k) ≡ w)
   unfolding nameWords
   word-record w h =
       let t = member-place w (nameWords update s n) (sym (sorted-member w (nameWords update s n)) ∙ h) in

@@ -8,14 +8,15 @@ use Rattle.iso8211.specs.Field.{FramedAt}
 use Rattle.iso8211.specs.File.{frameOf, recordAt}
 use Rattle.iso8211.specs.declared.file.Framed.the-variants.{Records}
 use Rattle.iso8211.proofs.Promise.{framed-at, records-few, record-in}
-use Rattle.table.specs.Table.{DSSI}
+use Rattle.table.specs.Table.{DSSI, DSPM}
 use Rattle.layout.specs.Layout.{filled}
 use Rattle.layout.specs.Record.{contentAt, Laid}
-use Rattle.layout.proofs.Promise.{laid-dsid, full-dssi, content-length}
+use Rattle.layout.proofs.Promise.{laid-dsid, laid-dspm, full-dssi, full-dspm, content-length}
 use Rattle.items.specs.Lists.{LaidOut}
 use Rattle.items.specs.Identity.{Identified}
 use Rattle.names.specs.Names.{firstItem, Readable}
 use Rattle.names.specs.Counts.{DssiThere}
+use Rattle.names.specs.Comf.{comfAt, DspmThere}
 
 module _ {update : Bool} {s : List ℕ} {n : ℕ} (readable : Readable update s n) where
   pub readable-few : n ≤ 5242880
@@ -56,4 +57,22 @@ dssi-there {marks} {s} n v h laid =
       framed = inside .framed;
       third = omega arith;
       whole = omega (arith, full-dssi (contentAt s at 2) full, content-length s at 2 inside (omega arith));
+    }
+
+-- "then 0001 DSPM": it is there once record 2 is laid out; that COMF is not above its most is Value's
+pub dspm-there : {marks s : List ℕ} (n : ℕ) → frameOf s ≡ Records n → 2 < n → Laid false 1 marks s (recordAt s 2) → comfAt s ≤ 10000000 → DspmThere s
+dspm-there {marks} {s} n v h laid few =
+    let at = recordAt s 2 in
+    let kinds = laid-dspm laid refl in
+    let two = kinds .0 in
+    let inside = record-in s n 2 at v h refl in
+    let within = inside .fields 1 (omega arith) .within in
+    let fits = inside .framed .fits in
+    let full : filled DSPM (contentAt s at 1) ≡ true = ap (λ (k : ℕ). filled k (contentAt s at 1)) (sym (kinds .1)) ∙ laid .full 1 (omega arith) in
+    let long = full-dspm (contentAt s at 1) full .long in
+    record {
+      framed = inside .framed;
+      second = omega arith;
+      whole = omega (arith, long, content-length s at 1 inside (omega arith));
+      few = few;
     }

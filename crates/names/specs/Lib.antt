@@ -3,7 +3,8 @@ pub mod Names
 pub mod Area
 pub mod Neighbours
 pub mod Counts
+pub mod Comf
 pub mod Lookup
-pub mod Foids
+pub mod Held
 pub mod Examples
 pub mod LookupExamples

@@ -3,9 +3,14 @@ use Prim.Native.Nat.{ℕ, _+_}
 use mathlib.Core.Bool.{cond}
 use mathlib.Core.List.{List, [], _∷_}
 use lib.Dec.{eqb}
-use Rattle.items.specs.Identity.{nameOf, placeOf}
+use Rattle.octets.specs.Number.{byteAt, numAt}
+use Rattle.items.specs.Identity.{nameFrom, nameOf, placeOf}
 use Rattle.names.specs.declared.lookup.Found.{Found}
 use Rattle.names.specs.declared.lookup.Found.the-variants.{At, Nothing}
+
+-- "NAME is RCNM, RCID": the name that an entry of VRPT or FSPT starts with
+unfoldable pub nameIn : List ℕ → ℕ
+nameIn e = nameFrom (byteAt e 0) (numAt e 1 4)
 
 -- the place of the record that has this name, by the words of all records
 unfoldable pub lookup : List ℕ → ℕ → Found

@@ -4,9 +4,22 @@ ghost use mathlib.Core.Path.{_≡_};
 ghost use lib.ListN.{length};
 ghost use Rattle.words.specs.Words.{wordsIn};
 ghost use Rattle.words.specs.Order.{Sorted, isIn};
-ghost use Rattle.names.specs.Lookup.{lookup, indexOf};
+ghost use Rattle.names.specs.Lookup.{nameIn, lookup, indexOf};
+use items::identity::rank_of;
+use octets::number::get1;
+use octets::number::get4;
 use words::find;
 use words::get;
+
+// The name that an entry of VRPT or FSPT starts with.
+pub fn name_in(e: &[u8]) -> u64
+    requires { ⌜ 5 ≤ length (now e) ⌝ }
+    ensures { λ r. ⌜ (r ≡ nameIn (now (e .entry))) × (r < 17179869184) ⌝ }
+{
+    let rank = rank_of(get1(e, 0));
+    let rcid = get4(e, 1) as u64;
+    rank * 4294967296 + rcid
+}
 
 // Where a name was found, if any record has it.
 pub enum Found {

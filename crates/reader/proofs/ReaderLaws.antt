@@ -1,7 +1,7 @@
 -- Laws of reading whole: what a file without a refusal of codes 4 to 6 gives to those who read its names and counts, and the answers in
 -- order. Assumes nothing.
 use Prim.Native.Nat.{ℕ, zero, suc, _+_, _-_, _*_, _≤_, _<_}
-use mathlib.Core.Bool.{Bool, true, false, not, cond}
+use mathlib.Core.Bool.{Bool, true, false, not, cond, _||_}
 use mathlib.Core.List.{List}
 use mathlib.Core.Logic.{⊎-elim, _⊎_, inl, inr}
 use mathlib.Core.Path.{_≡_, refl, sym, ap, _∙_}
@@ -9,8 +9,8 @@ use native.Mathlib.Nat.{add-zero}
 use native.Mathlib.Omega.{arith}
 use lib.ListN.{length, take, drop}
 use lib.Dec.{eqb, ltb}
-use borrow.Author.Tests.{eq-eqb, ne-eqb, lt-ltb, le-ltb, not-true, not-false}
-use Rattle.octets.specs.Number.{byteAt}
+use borrow.Author.Tests.{eq-eqb, ne-eqb, eqb-true, lt-ltb, le-ltb, not-true, not-false}
+use Rattle.octets.specs.Number.{byteAt, numAt}
 use Rattle.octets.proofs.Cases.{eq-or-ne, le-or-lt}
 use Rattle.octets.proofs.Tests.{told-no, told-yes}
 use Rattle.iso8211.specs.Record.{endOf}
@@ -19,29 +19,47 @@ use Rattle.iso8211.specs.File.{frameOf, recordAt}
 use Rattle.iso8211.specs.declared.field.Field.{Field}
 use Rattle.iso8211.specs.declared.file.Framed.the-variants.{Records}
 use Rattle.iso8211.proofs.Promise.{record-in, at-next, at-first, last-ends}
-use Rattle.table.specs.Table.{kindOf, VRID, FRID, DSSI}
-use Rattle.attributes.proofs.PartLaws.{part-byte}
+use Rattle.table.specs.Table.{kindOf, VRID, FRID, DSSI, DSPM}
+use Rattle.attributes.proofs.PartLaws.{part-byte, part-number}
 use Rattle.values.specs.Vrid.{isVector}
-use Rattle.values.proofs.Promise.{vrid-good}
+use Rattle.values.proofs.Promise.{vrid-good, frid-good, dspm-good}
 use Rattle.described.specs.Described.{describedOf}
 use Rattle.layout.specs.Layout.{contentOf}
 use Rattle.layout.specs.Record.{Laid, kindAt, contentAt}
-use Rattle.layout.proofs.Promise.{laid, laid-item, laid-late, laid-dsid, full-vrid, full-dssi, content-length}
+use Rattle.layout.proofs.Promise.{laid, laid-item, laid-late, laid-dsid, laid-dspm, full-vrid, full-frid, full-dssi, full-dspm, content-length}
 use Rattle.items.specs.Lists.{LaidOut}
 use Rattle.items.specs.Identity.{Identified, rcnmAt, idAt}
 use Rattle.items.proofs.Promise.{laid-record, laid-featured, vector-identified, feature-identified}
 use Rattle.chart.specs.Read.{refusal, fine, readFault}
 use Rattle.chart.specs.declared.read.Refusal.{Refusal}
-use Rattle.chart.proofs.Promise.{Here, Good, StageAt, good-records, fair, fair-vrid}
-use Rattle.names.specs.Names.{firstItem, Readable, twiceOf}
+use Rattle.chart.proofs.Promise.{Here, Good, StageAt, Fair, good-records, fair, fair-vrid, fair-frid, fair-dspm}
+use Rattle.words.specs.Words.{wordsIn}
+use Rattle.words.specs.Order.{sorted}
+use Rattle.names.specs.Names.{firstItem, nameWords, Readable, twiceOf}
+use Rattle.names.specs.Held.{HeldIn}
 use Rattle.names.specs.Counts.{DssiThere, countsGood}
-use Rattle.names.proofs.ReadableLaws.{dssi-there}
+use Rattle.names.specs.Comf.{comfAt, DspmThere}
+use Rattle.names.proofs.ReadableLaws.{dssi-there, dspm-there}
 use Rattle.names.specs.declared.twice.Repeat.{Repeat}
 use Rattle.reader.specs.Reader.{twiceRefusal, countsRefusal, cellFault, updateFault}
 
 rcnm-there : (s : List ℕ) (at : ℕ) → byteAt s (idAt s at + 0) ≡ rcnmAt s at
 unfolding rcnmAt
 rcnm-there s at = ap (λ (i : ℕ). byteAt s i) (add-zero (idAt s at))
+
+-- "110 isolated node, 120 connected node, 130 edge"
+either : (a b c : Bool) → (a || (b || c)) ≡ true → (a ≡ true) ⊎ ((b ≡ true) ⊎ (c ≡ true))
+either true b c h = inl refl
+either false true c h = inr (inl refl)
+either false false c h = inr (inr h)
+
+vector-one : (rcnm : ℕ) → isVector rcnm ≡ true → (rcnm ≡ 110) ⊎ ((rcnm ≡ 120) ⊎ (rcnm ≡ 130))
+unfolding isVector
+vector-one rcnm h =
+    ⊎-elim (λ (a : eqb rcnm 110 ≡ true). inl (eqb-true _ _ a))
+    (λ (o : (eqb rcnm 120 ≡ true) ⊎ (eqb rcnm 130 ≡ true)).
+    inr (⊎-elim (λ (b : eqb rcnm 120 ≡ true). inl (eqb-true _ _ b)) (λ (c : eqb rcnm 130 ≡ true). inr (eqb-true _ _ c)) o))
+    (either (eqb rcnm 110) (eqb rcnm 120) (eqb rcnm 130) h)
 
 -- ---- a vector or a feature of a file in which nothing was refused
 module _ (update : Bool) (s : List ℕ) (n k : ℕ) (framed : frameOf s ≡ Records n) (less : k < n) (here : Here update (describedOf s) s k) where
@@ -54,27 +72,46 @@ module _ (update : Bool) (s : List ℕ) (n k : ℕ) (framed : frameOf s ≡ Reco
   out-here : LaidOut s (recordAt s k)
   out-here = laid-record n k laid-here framed less refl
 
-  vector-here : kindAt s (recordAt s k) 1 ≡ VRID → rcnmAt s (recordAt s k) ≡ 100 → ⊥
-  unfolding isVector
-  vector-here e is =
-      let st = here .good .state in
+  -- the first byte of the identifier field is the record's RCNM
+  name-here : 0 < length (contentAt s (recordAt s k) 1) → byteAt (contentAt s (recordAt s k) 1) 0 ≡ rcnmAt s (recordAt s k)
+  name-here some =
       let two = laid-here .two in
-      let f = fair update (st .aall) (st .nall) s (recordAt s k) at-record (here .good .valued) 1 (omega arith) in
-      let good = vrid-good update (contentAt s (recordAt s k) 1) (fair-vrid _ e f) in
-      let long = full-vrid (contentAt s (recordAt s k) 1) (rw e at (laid-here .full 1 (omega arith))) in
       let size = content-length s (recordAt s k) 1 at-record (omega arith) in
-      let byte : byteAt (contentAt s (recordAt s k) 1) 0 ≡ rcnmAt s (recordAt s k) =
-      part-byte s (idAt s (recordAt s k)) (fieldAt s (recordAt s k) 1 .length - 1) 0 (omega arith) ∙ rcnm-there s (recordAt s k) in
-      let named : isVector 100 ≡ true = rw (byte ∙ is) at (good .rcnm) in
-      let z : _≡_ {A = ℕ} 0 1 = cc in
-      omega arith
+      part-byte s (idAt s (recordAt s k)) (fieldAt s (recordAt s k) 1 .length - 1) 0 (omega arith) ∙ rcnm-there s (recordAt s k)
+
+  fair-here : Fair update (here .good .state .aall) (here .good .state .nall) (kindAt s (recordAt s k) 1) (contentAt s (recordAt s k) 1)
+  fair-here =
+      let two = laid-here .two in
+      fair update (here .good .state .aall) (here .good .state .nall) s (recordAt s k) at-record (here .good .valued) 1 (omega arith)
+
+  vector-here : kindAt s (recordAt s k) 1 ≡ VRID → isVector (rcnmAt s (recordAt s k)) ≡ true
+  vector-here e =
+      let two = laid-here .two in
+      let long = full-vrid (contentAt s (recordAt s k) 1) (rw e at (laid-here .full 1 (omega arith))) in
+      let good = vrid-good update (contentAt s (recordAt s k) 1) (fair-vrid _ e fair-here) in
+      rw (name-here (omega arith)) at (good .rcnm)
+
+  feature-here : kindAt s (recordAt s k) 1 ≡ FRID → rcnmAt s (recordAt s k) ≡ 100
+  feature-here e =
+      let two = laid-here .two in
+      let long = full-frid (contentAt s (recordAt s k) 1) (rw e at (laid-here .full 1 (omega arith))) in
+      let good = frid-good update (contentAt s (recordAt s k) 1) (fair-frid _ e fair-here) in
+      sym (name-here (omega arith)) ∙ good .rcnm
+
+  factor-here : kindAt s (recordAt s k) 1 ≡ DSPM → numAt s (fieldAt s (recordAt s k) 1 .start + 16) 4 ≤ 10000000
+  factor-here e =
+      let two = laid-here .two in
+      let long = full-dspm (contentAt s (recordAt s k) 1) (rw e at (laid-here .full 1 (omega arith))) .long in
+      let size = content-length s (recordAt s k) 1 at-record (omega arith) in
+      let good = dspm-good (contentAt s (recordAt s k) 1) (fair-dspm _ e fair-here) in
+      rw (part-number s (fieldAt s (recordAt s k) 1 .start) (fieldAt s (recordAt s k) 1 .length - 1) 16 4 (omega arith)) at (good .comf .1)
 
   identified : 2 ≤ here .good .state .stage → Identified s (recordAt s k)
   identified two =
       let few = here .stage .few in
-      let feature : kindAt s (recordAt s k) 1 ≡ FRID → Identified s (recordAt s k) = λ (e : kindAt s (recordAt s k) 1 ≡ FRID). feature-identified s (recordAt s k) out-here (laid-featured laid-here out-here e) in
+      let feature : kindAt s (recordAt s k) 1 ≡ FRID → Identified s (recordAt s k) = λ (e : kindAt s (recordAt s k) 1 ≡ FRID). feature-identified s (recordAt s k) out-here (laid-featured laid-here out-here e) (feature-here e) in
       ⊎-elim (λ (e2 : here .good .state .stage ≡ 2).
-      ⊎-elim (λ (v : kindAt s (recordAt s k) 1 ≡ VRID). vector-identified s (recordAt s k) out-here v (vector-here v)) feature (laid-item laid-here e2))
+      ⊎-elim (λ (v : kindAt s (recordAt s k) 1 ≡ VRID). vector-identified s (recordAt s k) out-here v (vector-one (rcnmAt s (recordAt s k)) (vector-here v))) feature (laid-item laid-here e2))
       (λ (other : here .good .state .stage ≡ 2 → ⊥). feature (laid-late laid-here (omega arith)))
       (eq-or-ne (here .good .state .stage) 2)
 
@@ -115,6 +152,35 @@ dssi-read s n framed none =
     let state = h .stage .dsid refl in
     dssi-there n framed one (rw state at (laid-here false s n 1 framed one h))
 
+-- DSPM of a cell, and its COMF
+factor-read : (s : List ℕ) → numAt s (fieldAt s (recordAt s 2) 1 .start + 16) 4 ≤ 10000000 → comfAt s ≤ 10000000
+unfolding comfAt
+factor-read s h = h
+
+pub dspm-read : (s : List ℕ) (n : ℕ) → frameOf s ≡ Records n → readFault false s n .code ≡ 0 → DspmThere s
+dspm-read s n framed none =
+    let g = good-records false s n framed none in
+    let three = g .1 .0 refl in
+    let two : 2 < n = omega arith in
+    let h = g .0 2 (omega arith) two in
+    let state = h .stage .dspm refl refl in
+    let laid = laid-here false s n 2 framed two h in
+    dspm-there n framed two (rw state at laid) (factor-read s (factor-here false s n 2 framed two h (laid-dspm laid state .1)))
+
+-- ---- a cell in which nothing was refused
+cell-passed : (s : List ℕ) (n : ℕ) → cellFault s n .code ≡ 0 → readFault false s n .code ≡ 0
+unfolding cellFault
+cell-passed s n z =
+    ⊎-elim (λ (h : readFault false s n .code ≡ 0). h)
+    (λ (h : readFault false s n .code ≡ 0 → ⊥). rw (ne-eqb (readFault false s n .code) 0 h) at z)
+    (eq-or-ne (readFault false s n .code) 0)
+
+pub cell-good : (s : List ℕ) (n : ℕ) → frameOf s ≡ Records n → length s ≤ 5242880 → cellFault s n .code ≡ 0 → Readable false s n
+cell-good s n framed short z = readable false s n framed short (cell-passed s n z)
+
+pub cell-comf : (s : List ℕ) (n : ℕ) → frameOf s ≡ Records n → cellFault s n .code ≡ 0 → DspmThere s
+cell-comf s n framed z = dspm-read s n framed (cell-passed s n z)
+
 -- ---- cell_fault and update_fault: one law for each way out
 module _ (s : List ℕ) (n : ℕ) (r : Refusal) (is : r ≡ readFault false s n) where
   pub cell-read : (r .code ≡ 0 → ⊥) → r ≡ cellFault s n
@@ -138,6 +204,14 @@ module _ (s : List ℕ) (n : ℕ) (r : Refusal) (is : r ≡ readFault false s n)
       pub cell-fine : (a : Refusal) → not q ≡ false → a ≡ refusal 0 0 0 → a ≡ cellFault s n
       unfolding cellFault twiceRefusal countsRefusal
       cell-fine a h e = e ∙ rw (eq-eqb _ _ (cell-none z), ← told, eq-eqb _ _ once, told-yes q (countsGood s n) counted h)
+
+-- the words are promised where there is no refusal
+pub held-refused : {s work : List ℕ} {n : ℕ} (a : Refusal) (k i p : ℕ) → a ≡ refusal (suc k) i p → a .code ≡ 0 → HeldIn s n work
+held-refused a k i p e z = absurd (let same : suc k ≡ 0 = sym (ap (λ (q : Refusal). q .code) e) ∙ z in omega arith)
+
+pub held-words : {s work : List ℕ} {n : ℕ} → wordsIn work 0 (n - firstItem false) ≡ sorted (nameWords false s n) → HeldIn s n work
+unfolding firstItem
+held-words e = record { words = e }
 
 module _ (s : List ℕ) (n : ℕ) (r : Refusal) (is : r ≡ readFault true s n) where
   pub update-read : (r .code ≡ 0 → ⊥) → r ≡ updateFault s n

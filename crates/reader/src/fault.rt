@@ -1,10 +1,13 @@
 // Codes 4 to 8 of a framed file.
-ghost use Prim.Native.Nat.{_*_, _≤_};
+ghost use Prim.Native.Nat.{_-_, _*_, _≤_};
 ghost use mathlib.Core.Bool.{true, false};
 ghost use mathlib.Core.Path.{_≡_};
 ghost use lib.ListN.{length};
 ghost use Rattle.iso8211.specs.File.{frameOf};
-ghost use Rattle.names.specs.Names.{Readable, twiceOf};
+ghost use Rattle.words.specs.Words.{wordsIn};
+ghost use Rattle.words.specs.Order.{sorted};
+ghost use Rattle.names.specs.Names.{firstItem, nameWords, Readable, twiceOf};
+ghost use Rattle.names.specs.Held.{HeldIn};
 ghost use Rattle.reader.specs.Reader.{Opened, cellFault, updateFault};
 use chart::Refusal;
 use chart::read::read_fault;
@@ -15,18 +18,23 @@ use names::counts::counts_good;
 use names::order::order;
 use names::twice::twice;
 
-// The first name met twice, found by sorting the names in the work area.
+// The first name met twice, found by sorting the names in the work area; their words stay there, in
+// held order.
 fn repeated(s: &[u8], n: usize, update: bool, work: &mut [u8]) -> Repeat
     requires { ⌜ Readable update (now s) n × (16 * n ≤ length (now work)) ⌝ }
     ensures { λ r. ⌜ r ≡ twiceOf update (now (s .entry)) n ⌝ }
+    ensures { λ _. ⌜ wordsIn (now (work .exit)) 0 (n - firstItem update) ≡ sorted (nameWords update (now (s .entry)) n) ⌝ }
 {
     order(s, n, update, work);
     twice(s, n, update, work)
 }
 
+// A cell's codes 4 to 8. One without any has left the words of its items, in held order, in the work
+// area.
 pub fn cell_fault(s: &[u8], n: usize, work: &mut [u8]) -> Refusal
     requires { ⌜ Opened (now s) n (now work) ⌝ }
     ensures { λ r. ⌜ r ≡ cellFault (now (s .entry)) n ⌝ }
+    ensures { λ r. ⌜ (r .code ≡ 0 → HeldIn (now (s .entry)) n (now (work .exit))) ⌝ }
 {
     let r = read_fault(s, n, false);
     let code = r.code;

@@ -14,13 +14,14 @@ use Rattle.table.specs.Table.{rowOf, VRPT, SG2D, SG3D, FSPT}
 use Rattle.values.specs.Class.{isCollection}
 use Rattle.items.specs.Lists.{entriesAt}
 use Rattle.items.specs.Cursors.{left, Stepped}
-use Rattle.items.specs.Identity.{rcnmAt, primAt, objlAt, Identified, Featured}
+use Rattle.items.specs.Identity.{rcnmAt, Identified, Featured}
+use Rattle.items.specs.Item.{Item, itemAt}
 use Rattle.items.specs.declared.cursor.Cursor.{Cursor}
 use Rattle.items.specs.declared.cursor.Next.{Next}
 use Rattle.items.specs.declared.cursor.Next.the-variants.{Entry}
 use Rattle.items.proofs.KindLaws.{sg2d-fixed, sg3d-fixed}
 use Rattle.items.proofs.CursorLaws.{begin-left, next-left, next-bytes, through-on}
-use Rattle.shape.specs.Shape.{magnitude, pairGood, many, isolatedGood, addTopi, spatialGood, spatialCount, featureGood}
+use Rattle.shape.specs.Shape.{magnitude, pairGood, many, isolatedGood, addTopi, spatialGood, spatialCount, featureGood, shapeGood, shapeCode}
 
 -- ---- a number as it was read: a test on it is the test on what it is
 pub read-eq : (r n m : ℕ) → r ≡ n → r ≡ m → eqb n m ≡ true
@@ -68,7 +69,7 @@ module _ (s : List ℕ) (at k : ℕ) (c : Cursor) (r : Next) (stepped : Stepped 
   pair-bytes h = omega (arith, next-bytes s at k c r stepped from to next is (rowOf k .fixed) refl)
 
 -- ---- turns of the sum of TOPI, which stays small as the list has two entries
-pub topi-start : (s : List ℕ) (at : ℕ) (c : Cursor) → c ≡ record { field = 0; from = 0; to = 0 } → many s at VRPT ≡ 2
+pub topi-start : (s : List ℕ) (at : ℕ) (c : Cursor) → c ≡ record { field = 0; from = 0; to = 0 } → many (itemAt s at) VRPT ≡ 2
     → 0 + 255 * length (left s at VRPT c) ≤ 510
 topi-start s at c e two = omega (arith, ap length (begin-left s at VRPT c e))
 
@@ -87,47 +88,57 @@ or-none : (b : Bool) → b ≡ (b || false)
 or-none true = refl
 or-none false = refl
 
-module _ (s : List ℕ) (at v p n : ℕ) (pointers : v ≡ many s at VRPT) (pairs : p ≡ many s at SG2D) (soundings : n ≡ many s at SG3D) (none : v ≡ 0) where
-  isolated-is : isolatedGood s at ≡ ((eqb p 1 && eqb n 0) || (eqb p 0 && leb 1 n))
+module _ (i : Item) (v p n : ℕ) (pointers : v ≡ many i VRPT) (pairs : p ≡ many i SG2D) (soundings : n ≡ many i SG3D) (none : v ≡ 0) where
+  isolated-is : isolatedGood i ≡ ((eqb p 1 && eqb n 0) || (eqb p 0 && leb 1 n))
   unfolding isolatedGood
   isolated-is = rw (← pointers, ← pairs, ← soundings, none)
 
-  pub isolated-pair : p ≡ 1 → eqb n 0 ≡ isolatedGood s at
+  pub isolated-pair : p ≡ 1 → eqb n 0 ≡ isolatedGood i
   isolated-pair e = rw (isolated-is, e) (or-none (eqb n 0))
 
-  pub isolated-many : (p ≡ 1 → ⊥) → (p ≡ 0 → ⊥) → false ≡ isolatedGood s at
+  pub isolated-many : (p ≡ 1 → ⊥) → (p ≡ 0 → ⊥) → false ≡ isolatedGood i
   isolated-many ne some = rw (isolated-is, ne-eqb p 1 ne, ne-eqb p 0 some)
 
-  pub isolated-sounded : p ≡ 0 → leb 1 n ≡ isolatedGood s at
+  pub isolated-sounded : p ≡ 0 → leb 1 n ≡ isolatedGood i
   isolated-sounded e = rw (isolated-is, e)
 
 -- ---- a feature by its numbers: q tells whether it is a collection
-module _ (s : List ℕ) (at prim objl : ℕ) (q : Bool) (primitive : prim ≡ primAt s at) (class : objl ≡ objlAt s at) (told : q ≡ isCollection objl) where
-  feature-is : featureGood s at
-      ≡ cond (eqb prim 255) (q && eqb (many s at FSPT) 0) (not q && (spatialCount prim (many s at FSPT) && allOf (spatialGood prim) (entriesAt s at FSPT)))
+module _ (i : Item) (prim objl : ℕ) (q : Bool) (primitive : prim ≡ i .prim) (class : objl ≡ i .objl) (told : q ≡ isCollection objl) where
+  feature-is : featureGood i
+      ≡ cond (eqb prim 255) (q && eqb (many i FSPT) 0) (not q && (spatialCount prim (many i FSPT) && allOf (spatialGood prim) (i .entries FSPT)))
   unfolding featureGood
-  feature-is = let is : isCollection (objlAt s at) ≡ q = sym (told ∙ ap isCollection class) in rw (← primitive, is)
+  feature-is = let is : isCollection (i .objl) ≡ q = sym (told ∙ ap isCollection class) in rw (← primitive, is)
 
-  pub feature-none : prim ≡ 255 → not q ≡ true → false ≡ featureGood s at
+  pub feature-none : prim ≡ 255 → not q ≡ true → false ≡ featureGood i
   feature-none e t = rw (feature-is, e, told-no q q refl t)
 
-  pub feature-bare : (n : ℕ) → prim ≡ 255 → not q ≡ false → n ≡ many s at FSPT → eqb n 0 ≡ featureGood s at
+  pub feature-bare : (n : ℕ) → prim ≡ 255 → not q ≡ false → n ≡ many i FSPT → eqb n 0 ≡ featureGood i
   feature-bare n e t count = rw (feature-is, e, told-yes q q refl t, count)
 
   module _ (ne : prim ≡ 255 → ⊥) where
-    pub feature-drawn : q ≡ true → false ≡ featureGood s at
+    pub feature-drawn : q ≡ true → false ≡ featureGood i
     feature-drawn t = rw (feature-is, ne-eqb prim 255 ne, t)
 
-    module _ (n : ℕ) (f : Bool) (t : q ≡ false) (count : n ≡ many s at FSPT) (fits : f ≡ spatialCount prim n) where
-      feature-counted : featureGood s at ≡ (f && allOf (spatialGood prim) (entriesAt s at FSPT))
+    module _ (n : ℕ) (f : Bool) (t : q ≡ false) (count : n ≡ many i FSPT) (fits : f ≡ spatialCount prim n) where
+      feature-counted : featureGood i ≡ (f && allOf (spatialGood prim) (i .entries FSPT))
       feature-counted = rw (feature-is, ne-eqb prim 255 ne, t, ← count, ← fits)
 
-      pub feature-few : not f ≡ true → false ≡ featureGood s at
+      pub feature-few : not f ≡ true → false ≡ featureGood i
       feature-few g = rw (feature-counted, told-no f f refl g)
 
-      pub feature-all : (all : Bool) → not f ≡ false → all ≡ allOf (spatialGood prim) (entriesAt s at FSPT) → all ≡ featureGood s at
+      pub feature-all : (all : Bool) → not f ≡ false → all ≡ allOf (spatialGood prim) (i .entries FSPT) → all ≡ featureGood i
       feature-all all g is = rw (feature-counted, told-yes f f refl g) is
 
 -- ---- a record of RCNM 100 is a feature's
 pub feature-told : (s : List ℕ) (at r : ℕ) → Identified s at → r ≡ rcnmAt s at → r ≡ 100 → Featured s at
 feature-told s at r known is e = known .feature (sym is ∙ e)
+
+-- ---- the code by the answer q of whether the shape is good
+module _ (comf : ℕ) (i : Item) (q : Bool) (told : q ≡ shapeGood comf i) where
+  pub code-good : q ≡ true → 0 ≡ shapeCode comf i
+  unfolding shapeCode
+  code-good t = rw (← told, t)
+
+  pub code-bad : q ≡ false → 17 ≡ shapeCode comf i
+  unfolding shapeCode
+  code-bad t = rw (← told, t)

@@ -13,6 +13,7 @@ use Rattle.table.specs.Text.{bytes}
 use Rattle.table.specs.Table.{table, asNumber, rowOf, among, kindOf}
 use Rattle.items.specs.Lists.{partAt, joinFrom, listAt, entriesAt}
 use Rattle.items.specs.Identity.{rcnmAt}
+use Rattle.items.specs.Item.{itemAt}
 use Rattle.shape.specs.Shape.{magnitude, pairGood, coordinatesGood, isolatedGood, connectedGood, endGood, addTopi, edgeGood, classGood, vectorGood, oneOrTwo, lineGood, areaGood, featureGood, shapeGood}
 
 -- "X = 1,800,000,000 at COMF 10,000,000 passes; one more is 17"; the same below 0
@@ -49,13 +50,13 @@ single rcnm =
     ∷ 3 ∷ 0 ∷ 30 ∷ rcnm ∷ 1 ∷ 0 ∷ 0 ∷ 0 ∷ 1 ∷ 0 ∷ 1 ∷ 30 ∷ 0 ∷ 0 ∷ 0 ∷ 0 ∷ 0 ∷ 210 ∷ 73 ∷ 107 ∷ 30 ∷ []
 
 -- "Connected node: one pair"; an edge wants two VRPT
-node : shapeGood 10000000 (single 120) 0 ≡ true
+node : shapeGood 10000000 (itemAt (single 120) 0) ≡ true
 unfolding single numAt isDigit digitsFrom numberAt tagAt rowAt rows countAt directoryAt fieldAt
     textFrom textLen entryLen entriesFrom entriesOf bytes table asNumber rowOf among kindOf partAt joinFrom listAt entriesAt
     allOf through rcnmAt magnitude pairGood coordinatesGood isolatedGood connectedGood endGood addTopi edgeGood classGood vectorGood featureGood shapeGood
 node = refl
 
-edge : shapeGood 10000000 (single 130) 0 ≡ false
+edge : shapeGood 10000000 (itemAt (single 130) 0) ≡ false
 unfolding single numAt isDigit digitsFrom numberAt tagAt rowAt rows countAt directoryAt fieldAt
     textFrom textLen entryLen entriesFrom entriesOf bytes table asNumber rowOf among kindOf partAt joinFrom listAt entriesAt
     allOf through rcnmAt magnitude pairGood coordinatesGood isolatedGood connectedGood endGood addTopi edgeGood classGood vectorGood featureGood shapeGood

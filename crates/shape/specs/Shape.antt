@@ -1,4 +1,4 @@
--- Document 01's Shape, of one record: how many coordinates and pointers it has, and what stands in them. Assumes nothing.
+-- Document 01's Shape, of one item: how many coordinates and pointers it has, and what stands in them. Assumes nothing.
 use Prim.Native.Nat.{ℕ, _+_, _-_, _*_}
 use mathlib.Core.Bool.{Bool, not, cond, _&&_, _||_}
 use mathlib.Core.List.{List}
@@ -8,8 +8,7 @@ use Rattle.octets.specs.Number.{byteAt, numAt}
 use Rattle.entries.specs.Rules.{allOf, through}
 use Rattle.table.specs.Table.{VRPT, SG2D, SG3D, FSPT}
 use Rattle.values.specs.Class.{isCollection}
-use Rattle.items.specs.Lists.{entriesAt}
-use Rattle.items.specs.Identity.{rcnmAt, primAt, objlAt}
+use Rattle.items.specs.Item.{Item}
 
 -- "b2n is signed": how far from 0 a number of four bytes is
 unfoldable pub magnitude : ℕ → ℕ
@@ -19,21 +18,21 @@ magnitude u = cond (ltb u 2147483648) u (4294967296 - u)
 unfoldable pub pairGood : ℕ → List ℕ → Bool
 pairGood comf e = leb (magnitude (numAt e 0 4)) (90 * comf) && leb (magnitude (numAt e 4 4)) (180 * comf)
 
-unfoldable pub coordinatesGood : ℕ → List ℕ → ℕ → Bool
-coordinatesGood comf s at = allOf (pairGood comf) (entriesAt s at SG2D) && allOf (pairGood comf) (entriesAt s at SG3D)
+unfoldable pub coordinatesGood : ℕ → Item → Bool
+coordinatesGood comf i = allOf (pairGood comf) (i .entries SG2D) && allOf (pairGood comf) (i .entries SG3D)
 
 -- how many entries the list of kind k has
-abbrev pub many : List ℕ → ℕ → ℕ → ℕ
-many s at k = length (entriesAt s at k)
+abbrev pub many : Item → ℕ → ℕ
+many i k = length (i .entries k)
 
 -- "Isolated node: one 2-D pair, or one or more soundings"; "Nodes have no VRPT"
-unfoldable pub isolatedGood : List ℕ → ℕ → Bool
-isolatedGood s at =
-    eqb (many s at VRPT) 0 && ((eqb (many s at SG2D) 1 && eqb (many s at SG3D) 0) || (eqb (many s at SG2D) 0 && leb 1 (many s at SG3D)))
+unfoldable pub isolatedGood : Item → Bool
+isolatedGood i =
+    eqb (many i VRPT) 0 && ((eqb (many i SG2D) 1 && eqb (many i SG3D) 0) || (eqb (many i SG2D) 0 && leb 1 (many i SG3D)))
 
 -- "Connected node: one pair"
-unfoldable pub connectedGood : List ℕ → ℕ → Bool
-connectedGood s at = eqb (many s at VRPT) 0 && (eqb (many s at SG2D) 1 && eqb (many s at SG3D) 0)
+unfoldable pub connectedGood : Item → Bool
+connectedGood i = eqb (many i VRPT) 0 && (eqb (many i SG2D) 1 && eqb (many i SG3D) 0)
 
 -- "two VRPT, one TOPI 1 (begin) and one TOPI 2 (end), the rest 255, naming class 120": one VRPT, its NAME of five bytes, then ORNT, USAG,
 -- TOPI and MASK
@@ -46,17 +45,17 @@ unfoldable pub addTopi : ℕ → List ℕ → ℕ
 addTopi sum e = sum + byteAt e 7
 
 -- "Edge: pairs only, none allowed"; of two TOPI, each 1 or 2, one is 1 and one is 2 exactly if their sum is 3
-unfoldable pub edgeGood : List ℕ → ℕ → Bool
-edgeGood s at =
-    eqb (many s at SG3D) 0
-    && (eqb (many s at VRPT) 2 && (allOf endGood (entriesAt s at VRPT) && eqb (through addTopi 0 (entriesAt s at VRPT)) 3))
+unfoldable pub edgeGood : Item → Bool
+edgeGood i =
+    eqb (many i SG3D) 0
+    && (eqb (many i VRPT) 2 && (allOf endGood (i .entries VRPT) && eqb (through addTopi 0 (i .entries VRPT)) 3))
 
 -- a vector has the coordinates and pointers of its class, RCNM 110, 120 or 130
-unfoldable pub classGood : List ℕ → ℕ → Bool
-classGood s at = cond (eqb (rcnmAt s at) 110) (isolatedGood s at) (cond (eqb (rcnmAt s at) 120) (connectedGood s at) (edgeGood s at))
+unfoldable pub classGood : Item → Bool
+classGood i = cond (eqb (i .rcnm) 110) (isolatedGood i) (cond (eqb (i .rcnm) 120) (connectedGood i) (edgeGood i))
 
-unfoldable pub vectorGood : ℕ → List ℕ → ℕ → Bool
-vectorGood comf s at = classGood s at && coordinatesGood comf s at
+unfoldable pub vectorGood : ℕ → Item → Bool
+vectorGood comf i = classGood i && coordinatesGood comf i
 
 -- class 110 or 120
 unfoldable pub isNode : ℕ → Bool
@@ -89,11 +88,15 @@ unfoldable pub spatialCount : ℕ → ℕ → Bool
 spatialCount prim n = cond (eqb prim 1) (eqb n 1) (leb 1 n)
 
 -- "PRIM 255 exactly for collections, no FSPT"
-unfoldable pub featureGood : List ℕ → ℕ → Bool
-featureGood s at =
-    cond (eqb (primAt s at) 255) (isCollection (objlAt s at) && eqb (many s at FSPT) 0)
-    (not (isCollection (objlAt s at)) && (spatialCount (primAt s at) (many s at FSPT) && allOf (spatialGood (primAt s at)) (entriesAt s at FSPT)))
+unfoldable pub featureGood : Item → Bool
+featureGood i =
+    cond (eqb (i .prim) 255) (isCollection (i .objl) && eqb (many i FSPT) 0)
+    (not (isCollection (i .objl)) && (spatialCount (i .prim) (many i FSPT) && allOf (spatialGood (i .prim)) (i .entries FSPT)))
 
--- "All so far is Shape": PRIM is 1, 2, 3 or 255 and RCNM 110, 120, 130 or 100 by Value
-unfoldable pub shapeGood : ℕ → List ℕ → ℕ → Bool
-shapeGood comf s at = cond (eqb (rcnmAt s at) 100) (featureGood s at) (vectorGood comf s at)
+-- a feature by its primitive, a vector by its class: PRIM is 1, 2, 3 or 255 and RCNM 110, 120, 130 or 100 by Value
+unfoldable pub shapeGood : ℕ → Item → Bool
+shapeGood comf i = cond (eqb (i .rcnm) 100) (featureGood i) (vectorGood comf i)
+
+-- "All so far is Shape": code 17, or 0 for an item without fault
+unfoldable pub shapeCode : ℕ → Item → ℕ
+shapeCode comf i = cond (shapeGood comf i) 0 17

@@ -6,6 +6,7 @@ ghost use Rattle.entries.specs.Rules.{allOf};
 ghost use Rattle.table.specs.Table.{rowOf};
 ghost use Rattle.iso8211.specs.Field.{HeadOf};
 ghost use Rattle.items.specs.Lists.{entriesAt, LaidOut, Listed};
+ghost use Rattle.items.specs.Item.{itemAt};
 ghost use Rattle.shape.specs.Shape.{magnitude, pairGood, coordinatesGood};
 use iso8211::field::Head;
 use items::Next;
@@ -63,7 +64,7 @@ fn pairs_good(s: &[u8], at: usize, h: Head, k: usize, comf: u32) -> bool
 // Whether all coordinates of the record are.
 pub fn coordinates_good(s: &[u8], at: usize, h: Head, comf: u32) -> bool
     requires { ⌜ LaidOut (now s) at × HeadOf (now s) at h × (comf ≤ 10000000) ⌝ }
-    ensures { λ r. ⌜ r ≡ coordinatesGood comf (now (s .entry)) at ⌝ }
+    ensures { λ r. ⌜ r ≡ coordinatesGood comf (itemAt (now (s .entry)) at) ⌝ }
 {
     if !pairs_good(s, at, h, SG2D, comf) {
         return false;

@@ -5,6 +5,7 @@ ghost use Rattle.table.specs.Table.{FSPT};
 ghost use Rattle.iso8211.specs.Field.{HeadOf};
 ghost use Rattle.items.specs.Lists.{entriesAt, LaidOut, Listed};
 ghost use Rattle.items.specs.Identity.{Featured};
+ghost use Rattle.items.specs.Item.{itemAt};
 ghost use Rattle.shape.specs.Shape.{spatialGood, featureGood};
 use crate::spatial::spatial_count;
 use crate::spatial::spatial_good;
@@ -40,7 +41,7 @@ fn spatials_good(s: &[u8], at: usize, h: Head, prim: u32) -> bool
 // Whether a feature has the pointers of its primitive, and none exactly if it is a collection.
 pub fn feature_good(s: &[u8], at: usize, h: Head) -> bool
     requires { ⌜ LaidOut (now s) at × HeadOf (now s) at h × Featured (now s) at ⌝ }
-    ensures { λ r. ⌜ r ≡ featureGood (now (s .entry)) at ⌝ }
+    ensures { λ r. ⌜ r ≡ featureGood (itemAt (now (s .entry)) at) ⌝ }
 {
     let prim = prim_of(s, at, h);
     let collection = is_collection(objl_of(s, at, h));

@@ -6,7 +6,8 @@ ghost use mathlib.Core.Path.{_≡_};
 ghost use Rattle.iso8211.specs.Field.{HeadOf};
 ghost use Rattle.items.specs.Lists.{LaidOut};
 ghost use Rattle.items.specs.Identity.{Identified};
-ghost use Rattle.shape.specs.Shape.{shapeGood};
+ghost use Rattle.items.specs.Item.{itemAt};
+ghost use Rattle.shape.specs.Shape.{shapeGood, shapeCode};
 use feature::feature_good;
 use iso8211::field::Head;
 use items::identity::rcnm_of;
@@ -17,14 +18,28 @@ pub mod feature;
 pub mod spatial;
 pub mod vector;
 
+// Document 01's code.
+const SHAPE: u32 = 17;
+
 // Whether the record at `at` has the shape of its class, coordinates being counted in parts of
 // 1 / comf of a degree.
 pub fn shape_good(s: &[u8], at: usize, h: Head, comf: u32) -> bool
     requires { ⌜ LaidOut (now s) at × HeadOf (now s) at h × Identified (now s) at × (comf ≤ 10000000) ⌝ }
-    ensures { λ r. ⌜ r ≡ shapeGood comf (now (s .entry)) at ⌝ }
+    ensures { λ r. ⌜ r ≡ shapeGood comf (itemAt (now (s .entry)) at) ⌝ }
 {
     if rcnm_of(s, at, h) == 100 {
         return feature_good(s, at, h);
     }
     vector_good(s, at, h, comf)
+}
+
+// The code of the item at `at`: 0 if it has that shape.
+pub fn shape_code(s: &[u8], at: usize, h: Head, comf: u32) -> u32
+    requires { ⌜ LaidOut (now s) at × HeadOf (now s) at h × Identified (now s) at × (comf ≤ 10000000) ⌝ }
+    ensures { λ r. ⌜ r ≡ shapeCode comf (itemAt (now (s .entry)) at) ⌝ }
+{
+    if shape_good(s, at, h, comf) {
+        return 0;
+    }
+    SHAPE
 }

@@ -8,6 +8,7 @@ ghost use Rattle.table.specs.Table.{VRPT};
 ghost use Rattle.iso8211.specs.Field.{HeadOf};
 ghost use Rattle.items.specs.Lists.{entriesAt, LaidOut, Listed};
 ghost use Rattle.items.specs.Identity.{Identified};
+ghost use Rattle.items.specs.Item.{itemAt};
 ghost use Rattle.shape.specs.Shape.{many, isolatedGood, connectedGood, endGood, addTopi, edgeGood, classGood, vectorGood};
 use crate::coordinate::SG2D;
 use crate::coordinate::SG3D;
@@ -26,7 +27,7 @@ const VRPT: usize = 6;
 // Whether an isolated node has one pair, or soundings alone, and no pointer.
 fn isolated_good(s: &[u8], at: usize, h: Head) -> bool
     requires { ⌜ LaidOut (now s) at × HeadOf (now s) at h ⌝ }
-    ensures { λ r. ⌜ r ≡ isolatedGood (now (s .entry)) at ⌝ }
+    ensures { λ r. ⌜ r ≡ isolatedGood (itemAt (now (s .entry)) at) ⌝ }
 {
     if count(s, at, h, VRPT) != 0 {
         return false;
@@ -45,7 +46,7 @@ fn isolated_good(s: &[u8], at: usize, h: Head) -> bool
 // Whether a connected node has one pair and no pointer.
 fn connected_good(s: &[u8], at: usize, h: Head) -> bool
     requires { ⌜ LaidOut (now s) at × HeadOf (now s) at h ⌝ }
-    ensures { λ r. ⌜ r ≡ connectedGood (now (s .entry)) at ⌝ }
+    ensures { λ r. ⌜ r ≡ connectedGood (itemAt (now (s .entry)) at) ⌝ }
 {
     if count(s, at, h, VRPT) != 0 {
         return false;
@@ -106,7 +107,7 @@ fn topi_of(e: &[u8]) -> u32
 
 // The sum of the TOPI of two VRPT.
 fn topi_sum(s: &[u8], at: usize, h: Head) -> u32
-    requires { ⌜ Listed (now s) at h VRPT × (many (now s) at VRPT ≡ 2) ⌝ }
+    requires { ⌜ Listed (now s) at h VRPT × (many (itemAt (now s) at) VRPT ≡ 2) ⌝ }
     ensures { λ r. ⌜ r ≡ through addTopi 0 (entriesAt (now (s .entry)) at VRPT) ⌝ }
 {
     let mut sum: u32 = 0;
@@ -123,7 +124,7 @@ fn topi_sum(s: &[u8], at: usize, h: Head) -> u32
 // Whether an edge has no soundings, and two pointers, to its begin and to its end.
 fn edge_good(s: &[u8], at: usize, h: Head) -> bool
     requires { ⌜ LaidOut (now s) at × HeadOf (now s) at h ⌝ }
-    ensures { λ r. ⌜ r ≡ edgeGood (now (s .entry)) at ⌝ }
+    ensures { λ r. ⌜ r ≡ edgeGood (itemAt (now (s .entry)) at) ⌝ }
 {
     if count(s, at, h, SG3D) != 0 {
         return false;
@@ -140,7 +141,7 @@ fn edge_good(s: &[u8], at: usize, h: Head) -> bool
 // Whether a vector has the coordinates and pointers of its class.
 fn class_good(s: &[u8], at: usize, h: Head) -> bool
     requires { ⌜ LaidOut (now s) at × HeadOf (now s) at h × Identified (now s) at ⌝ }
-    ensures { λ r. ⌜ r ≡ classGood (now (s .entry)) at ⌝ }
+    ensures { λ r. ⌜ r ≡ classGood (itemAt (now (s .entry)) at) ⌝ }
 {
     let rcnm = rcnm_of(s, at, h);
     if rcnm == 110 {
@@ -155,7 +156,7 @@ fn class_good(s: &[u8], at: usize, h: Head) -> bool
 // Whether a vector has them, and its coordinates are within their limits.
 pub fn vector_good(s: &[u8], at: usize, h: Head, comf: u32) -> bool
     requires { ⌜ LaidOut (now s) at × HeadOf (now s) at h × Identified (now s) at × (comf ≤ 10000000) ⌝ }
-    ensures { λ r. ⌜ r ≡ vectorGood comf (now (s .entry)) at ⌝ }
+    ensures { λ r. ⌜ r ≡ vectorGood comf (itemAt (now (s .entry)) at) ⌝ }
 {
     if !class_good(s, at, h) {
         return false;

@@ -26,7 +26,7 @@ same-length : tie.Need-same-length
 same-length c = search needs
 
 returns-2 : tie.Need-returns-2
-returns-2 c = update-twice _ _ _ (c .before .before .before .before .before .before .before .read-fault .ensures) (c .before .before .before .before .before .before .if1 .left) _ (c .before .before .before .before .repeated .ensures) _ (c .before .if2 .taken) (c .refuse .ensures)
+returns-2 c = update-twice _ _ _ (c .before .before .before .before .before .before .before .read-fault .ensures) (c .before .before .before .before .before .before .if1 .left) _ (c .before .before .before .before .repeated .ensures .0) _ (c .before .if2 .taken) (c .refuse .ensures)
 
 refuse-requires-2 : tie.Need-refuse-requires-2
 refuse-requires-2 c κs = search needs
@@ -35,7 +35,7 @@ same-length-2 : tie.Need-same-length-2
 same-length-2 c = search needs
 
 returns-3 : tie.Need-returns-3
-returns-3 c = update-fine _ _ _ (c .before .before .before .before .before .before .before .read-fault .ensures) (c .before .before .before .before .before .before .if1 .left) _ (c .before .before .before .before .repeated .ensures) _ (c .before .if2 .left) (c .refuse2 .ensures)
+returns-3 c = update-fine _ _ _ (c .before .before .before .before .before .before .before .read-fault .ensures) (c .before .before .before .before .before .before .if1 .left) _ (c .before .before .before .before .repeated .ensures .0) _ (c .before .if2 .left) (c .refuse2 .ensures)
 
 pub update-fault-spec : {M : Type 1} → statement M
 update-fault-spec =

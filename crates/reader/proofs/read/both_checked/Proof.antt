@@ -39,7 +39,7 @@ same-length : tie.Need-same-length
 same-length c = search needs
 
 returns-2 : tie.Need-returns-2
-returns-2 c = both-cell _ _ _ _ _ _ _ (c .before .before .before .before .before .before .if1 .left) (c .before .before .before .before .cell-fault .ensures) (c .before .if2 .taken) (c .filed .ensures)
+returns-2 c = both-cell _ _ _ _ _ _ _ (c .before .before .before .before .before .before .if1 .left) (c .before .before .before .before .cell-fault .ensures .0) (c .before .if2 .taken) (c .filed .ensures)
 
 update-fault-requires : tie.Need-update-fault-requires
 update-fault-requires c κs = record { framed = (c .before .before .before .before .before .before .before .before .before .before .pre .1 .framed); short = (c .before .before .before .before .before .before .before .before .before .before .pre .1 .short); room = omega (arith, (c .before .before .before .before .cell-fault .kept .1 .1 .0)) }
@@ -51,7 +51,7 @@ same-length-2 : tie.Need-same-length-2
 same-length-2 c = search needs
 
 returns-3 : tie.Need-returns-3
-returns-3 c = both-update _ _ _ _ _ _ _ (c .before .before .before .before .before .before .before .before .before .before .if1 .left) (c .before .before .before .before .before .before .before .before .cell-fault .ensures) _ (c .before .before .before .before .before .if2 .left) (c .before .before .before .update-fault .ensures) (c .filed2 .ensures)
+returns-3 c = both-update _ _ _ _ _ _ _ (c .before .before .before .before .before .before .before .before .before .before .if1 .left) (c .before .before .before .before .before .before .before .before .cell-fault .ensures .0) _ (c .before .before .before .before .before .if2 .left) (c .before .before .before .update-fault .ensures) (c .filed2 .ensures)
 
 pub both-checked-spec : {M : Type 1} → statement M
 both-checked-spec =

@@ -32,7 +32,7 @@ same-length : tie.Need-same-length
 same-length c = search needs
 
 returns-2 : tie.Need-returns-2
-returns-2 c = checked-filed _ _ _ _ _ (c .before .before .before .before .before .if1 .left) (c .before .before .before .cell-fault .ensures) (c .filed .ensures)
+returns-2 c = checked-filed _ _ _ _ _ (c .before .before .before .before .before .if1 .left) (c .before .before .before .cell-fault .ensures .0) (c .filed .ensures)
 
 pub cell-checked-spec : {M : Type 1} → statement M
 cell-checked-spec =

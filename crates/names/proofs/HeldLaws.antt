@@ -1,0 +1,124 @@
+-- Laws of the items in held order: each word of a cell stands for a record that is laid out; a name is found among the items where it is
+-- found among the words; a word's rank is that of its record's RCNM. Assumes nothing.
+use Prim.Native.Nat.{ℕ, zero, suc, _+_, _*_, _/_, _≤_, _<_}
+use mathlib.Core.Bool.{false}
+use mathlib.Core.List.{List, [], _∷_}
+use mathlib.Core.Logic.{_⊎_, ⊎-elim}
+use mathlib.Core.Path.{_≡_, refl, sym, ap, _∙_, fun-ext}
+use native.Mathlib.Omega.{arith}
+use lib.ListN.{length, getD, drop}
+use lib.Dec.{eqb}
+use borrow.Author.Tests.{ne-eqb}
+use Rattle.octets.specs.Number.{byteAt, numAt}
+use Rattle.words.specs.Order.{sorted}
+use Rattle.words.proofs.OrderLaws.{member-at}
+use Rattle.items.specs.Lists.{LaidOut}
+use Rattle.items.specs.Identity.{Identified, idAt, rcnmAt, rcidAt, rankOf, nameFrom, nameAt, wordFor, nameOf, placeOf}
+use Rattle.items.specs.Item.{Item, itemAt, itemName}
+use Rattle.items.proofs.IdentityLaws.{word-place, rank-few}
+use Rattle.names.specs.Names.{nameWords, Readable}
+use Rattle.names.specs.Lookup.{indexFrom, indexOf}
+use Rattle.names.specs.Held.{itemsOf, placeFrom, placeIn, Stands, AllStand}
+use Rattle.names.proofs.ReadableLaws.{place-small}
+use Rattle.names.proofs.NamedLaws.{word-record}
+
+-- ---- the words of a cell stand for its records
+stand-record : {s : List ℕ} {w at : ℕ} → wordFor s at ≡ w → at < 16777216 → LaidOut s at × Identified s at → Stands s w
+stand-record {s} {w} {at} e small known =
+    let place : placeOf w ≡ at = ap (λ (v : ℕ). placeOf v) (sym e) ∙ word-place s at small in
+    record { is = rw place (sym e); laid = rw place (known .0); known = rw place (known .1) }
+
+pub all-stand : {s : List ℕ} {n : ℕ} → Readable false s n → AllStand s (sorted (nameWords false s n))
+all-stand {s} {n} readable = record {
+  each = λ p h.
+      let ws = sorted (nameWords false s n) in
+      let r = word-record false s n (getD ws p 0) (member-at ws p h) in
+      stand-record (r .3) (place-small readable (r .0) (r .2)) (readable .items (r .0) (r .1) (r .2));
+}
+
+pub stand-first : {s : List ℕ} {w : ℕ} {ws : List ℕ} → AllStand s (w ∷ ws) → Stands s w
+stand-first {s} {w} {ws} all = all .each 0 (omega arith)
+
+pub stand-rest : {s : List ℕ} {w : ℕ} {ws : List ℕ} → AllStand s (w ∷ ws) → AllStand s ws
+stand-rest {s} {w} {ws} all = record { each = λ p h. all .each (suc p) (omega arith) }
+
+-- ---- a word's name is its item's
+name-word : (s : List ℕ) (at : ℕ) → at < 16777216 → nameOf (wordFor s at) ≡ itemName (itemAt s at)
+unfolding wordFor nameAt itemName
+name-word s at h = omega arith
+
+pub stand-name : {s : List ℕ} {w : ℕ} → Stands s w → nameOf w ≡ itemName (itemAt s (placeOf w))
+stand-name {s} {w} stands = ap (λ (v : ℕ). nameOf v) (stands .is) ∙ name-word s (placeOf w) (omega arith)
+
+place-from : (k : ℕ) (s ws : List ℕ) (name : ℕ) → AllStand s ws → placeFrom k (itemsOf s ws) name ≡ indexFrom k ws name
+unfolding itemsOf placeFrom indexFrom
+place-from k s [] name all = refl
+place-from k s (w ∷ ws) name all = rw (← stand-name (stand-first all), place-from (k + 1) s ws name (stand-rest all))
+
+-- a name has among the items the index that it has among the words
+pub place-index : (s ws : List ℕ) → AllStand s ws → placeIn (itemsOf s ws) ≡ indexOf ws
+unfolding placeIn indexOf
+place-index s ws all = fun-ext (λ (name : ℕ). place-from 0 s ws name all)
+
+-- ---- the items by index
+pub items-length : (s ws : List ℕ) → length (itemsOf s ws) ≡ length ws
+unfolding itemsOf
+items-length s [] = refl
+items-length s (w ∷ ws) = ap suc (items-length s ws)
+
+pub items-drop : (k : ℕ) (s ws : List ℕ) → drop k (itemsOf s ws) ≡ itemsOf s (drop k ws)
+unfolding itemsOf
+items-drop zero s ws = refl
+items-drop (suc k) s [] = refl
+items-drop (suc k) s (w ∷ ws) = items-drop k s ws
+
+pub items-at : (s ws : List ℕ) (k : ℕ) (d : Item) → k < length ws → getD (itemsOf s ws) k d ≡ itemAt s (placeOf (getD ws k 0))
+unfolding itemsOf
+items-at s [] k d h = absurd (omega arith)
+items-at s (w ∷ ws) zero d h = refl
+items-at s (w ∷ ws) (suc k) d h = items-at s ws k d (omega arith)
+
+-- ---- a word's rank, the file being one of bytes
+pub rcid-small : (s : List ℕ) (at : ℕ) → ((i : ℕ) → byteAt s i < 256) → rcidAt s at < 4294967296
+unfolding rcidAt numAt
+rcid-small s at bytes =
+    let p = idAt s at + 1 in
+    let a = bytes p in
+    let b = bytes (suc p) in
+    let c = bytes (suc (suc p)) in
+    let d = bytes (suc (suc (suc p))) in
+    omega arith
+
+word-rank : (s : List ℕ) (at : ℕ) → at < 16777216 → rcidAt s at < 4294967296 → wordFor s at / 72057594037927936 ≡ rankOf (rcnmAt s at)
+unfolding wordFor nameAt nameFrom
+word-rank s at h small = omega arith
+
+pub stand-rank : {s : List ℕ} {w : ℕ} → Stands s w → ((i : ℕ) → byteAt s i < 256) → w / 72057594037927936 ≡ rankOf (rcnmAt s (placeOf w))
+stand-rank {s} {w} stands bytes =
+    ap (λ (v : ℕ). v / 72057594037927936) (stands .is) ∙ word-rank s (placeOf w) (omega arith) (rcid-small s (placeOf w) bytes)
+
+rank-feature : (rcnm : ℕ) → rcnm ≡ 100 → rankOf rcnm ≡ 3
+unfolding rankOf
+rank-feature rcnm e = rw e
+
+-- the words of the vectors stand below those of the features
+pub stand-vector : {s : List ℕ} {w : ℕ} → Stands s w → ((i : ℕ) → byteAt s i < 256) → w < 3 * 72057594037927936
+    → eqb (rcnmAt s (placeOf w)) 100 ≡ false
+stand-vector {s} {w} stands bytes low =
+    ne-eqb (rcnmAt s (placeOf w)) 100
+    (λ (e : rcnmAt s (placeOf w) ≡ 100). let is = rank-feature (rcnmAt s (placeOf w)) e in omega (arith, stand-rank stands bytes))
+
+pub stand-last : {s : List ℕ} {w : ℕ} → Stands s w → ((i : ℕ) → byteAt s i < 256) → 3 * 72057594037927936 ≤ w → rankOf (rcnmAt s (placeOf w)) ≡ 3
+stand-last {s} {w} stands bytes high = omega (arith, stand-rank stands bytes, rank-few (rcnmAt s (placeOf w)))
+
+last-feature : (rcnm : ℕ) → rankOf rcnm ≡ 3 → (rcnm ≡ 110) ⊎ ((rcnm ≡ 120) ⊎ ((rcnm ≡ 130) ⊎ (rcnm ≡ 100))) → rcnm ≡ 100
+unfolding rankOf
+last-feature rcnm e class =
+    ⊎-elim (λ (a : rcnm ≡ 110). let z : _≡_ {A = ℕ} 0 3 = rw a at e in absurd (omega arith))
+    (λ (o : (rcnm ≡ 120) ⊎ ((rcnm ≡ 130) ⊎ (rcnm ≡ 100))).
+    ⊎-elim (λ (b : rcnm ≡ 120). let z : _≡_ {A = ℕ} 1 3 = rw b at e in absurd (omega arith))
+    (λ (p : (rcnm ≡ 130) ⊎ (rcnm ≡ 100)).
+    ⊎-elim (λ (c : rcnm ≡ 130). let z : _≡_ {A = ℕ} 2 3 = rw c at e in absurd (omega arith)) (λ (d : rcnm ≡ 100). d) p) o) class
+
+pub stand-feature : {s : List ℕ} {w : ℕ} → Stands s w → ((i : ℕ) → byteAt s i < 256) → 3 * 72057594037927936 ≤ w → rcnmAt s (placeOf w) ≡ 100
+stand-feature {s} {w} stands bytes high = last-feature (rcnmAt s (placeOf w)) (stand-last stands bytes high) (stands .known .class)

@@ -1,0 +1,2 @@
+-- Laws of `pointer`: those of its code.
+pub mod PointerLaws

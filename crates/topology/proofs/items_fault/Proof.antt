@@ -1,0 +1,73 @@
+-- The invariant: the refusal from item i on is that from the first.
+use Prim.Native.Nat.{_+_, _-_, _≤_}
+use mathlib.Core.Path.{_≡_}
+use Rattle.words.specs.Words.{wordsIn}
+use Rattle.names.specs.Held.{itemsOf}
+use Rattle.topology.specs.Topology.{faultFrom}
+use Rattle.topology.specs.Notes.{notedCode}
+use Rattle.topology.proofs.TopologyLaws.{fault-start, fault-found, fault-on, fault-done, turn-laid, turn-known}
+use borrow.Author.Needs.{needs}
+use Rattle.topology.proofs.items_fault.Statement.{statement}
+use Rattle.topology.proofs.items_fault.Tie as tie
+use Rattle.topology.proofs.items_fault.Reads as reads
+use Rattle.topology.proofs.items_fault.Lts as lts
+use Rattle.chart.proofs.read.refuse.Reads as refuse-reads
+use Rattle.topology.proofs.item_code.Reads as item-code-reads
+use Rattle.words.proofs.get.Reads as get-reads
+
+abbrev Inv-loop : tie.InvT-loop
+Inv-loop s comf work m v i₀ i = (i ≤ m) × (faultFrom (notedCode comf work m v) 3 (itemsOf s (wordsIn work 0 m)) ≡ faultFrom (notedCode comf work m v) (3 + i) (itemsOf s (wordsIn work i (m - i))))
+
+abbrev μ-loop : tie.MeasureT-loop
+μ-loop s comf work m v i₀ i = m - i
+
+loop-holds : tie.Need-loop-holds Inv-loop μ-loop
+loop-holds c = search (needs, fault-start)
+
+get-requires : tie.Need-get-requires Inv-loop μ-loop
+get-requires c κs = search needs
+
+item-code-requires : tie.Need-item-code-requires Inv-loop μ-loop
+item-code-requires c κs = (search (needs, turn-laid), search (needs, turn-known), search needs, search needs)
+
+add-refuse : tie.Need-add-refuse Inv-loop μ-loop
+add-refuse c = search needs
+
+refuse-requires : tie.Need-refuse-requires Inv-loop μ-loop
+refuse-requires c κs = search needs
+
+returns : tie.Need-returns Inv-loop μ-loop
+returns c = search (needs, fault-found)
+
+add-i : tie.Need-add-i Inv-loop μ-loop
+add-i c = search needs
+
+loop-less : tie.Need-loop-less Inv-loop μ-loop
+loop-less c = search needs
+
+loop-again : tie.Need-loop-again Inv-loop μ-loop
+loop-again c = (search needs, search (needs, fault-on))
+
+refuse-requires-2 : tie.Need-refuse-requires-2 Inv-loop μ-loop
+refuse-requires-2 c κs = search needs
+
+returns-2 : tie.Need-returns-2 Inv-loop μ-loop
+returns-2 c = search (needs, fault-done)
+
+pub items-fault-spec : {M : Type 1} → statement M
+items-fault-spec =
+    tie.close
+    (tie.spec
+    Inv-loop
+    μ-loop
+    loop-holds
+    get-requires
+    item-code-requires
+    add-refuse
+    refuse-requires
+    returns
+    add-i
+    loop-less
+    loop-again
+    refuse-requires-2
+    returns-2)

@@ -1,0 +1,73 @@
+// Topology, codes 17 to 19: Shape, Pointer and Ring of all items in held order. It takes the rules of
+// one item from `shape`, `pointer` and `ring`, and the held order from the words that reading left in
+// the work area.
+ghost use Prim.Native.Nat.{_-_, _*_, _≤_};
+ghost use mathlib.Core.Bool.{false};
+ghost use mathlib.Core.Path.{_≡_};
+ghost use lib.ListN.{length};
+ghost use Rattle.words.specs.Words.{wordsIn};
+ghost use Rattle.items.specs.Lists.{LaidOut};
+ghost use Rattle.items.specs.Identity.{Identified};
+ghost use Rattle.items.specs.Item.{itemAt};
+ghost use Rattle.names.specs.Names.{Readable};
+ghost use Rattle.names.specs.Comf.{DspmThere};
+ghost use Rattle.names.specs.Held.{AllStand, HeldIn, Noted, itemsOf};
+ghost use Rattle.topology.specs.Topology.{faultFrom, topologyFault};
+ghost use Rattle.topology.specs.Notes.{notedCode};
+use chart::Refusal;
+use chart::read::refuse;
+use iso8211::field::head_of;
+use names::comf::comf_of;
+use note::prepare;
+use pointer::pointer_code;
+use ring::ring_code;
+use shape::shape_code;
+use words::get;
+
+pub mod note;
+
+// The code of the item at `at`, by the words and notes of m items, of which v are vectors.
+fn item_code(s: &[u8], at: usize, comf: u32, work: &[u8], m: usize, v: usize) -> u32
+    requires { ⌜ LaidOut (now s) at × Identified (now s) at × Noted (now work) m v × (comf ≤ 10000000) ⌝ }
+    ensures { λ r. ⌜ r ≡ notedCode comf (now (work .entry)) m v (itemAt (now (s .entry)) at) ⌝ }
+{
+    let h = head_of(s, at);
+    let shape = shape_code(s, at, h, comf);
+    if shape != 0 {
+        return shape;
+    }
+    let pointer = pointer_code(s, at, h, work, m, v);
+    if pointer != 0 {
+        return pointer;
+    }
+    ring_code(s, at, h, work, m, v)
+}
+
+// The first of m items that has a code.
+fn items_fault(s: &[u8], comf: u32, work: &[u8], m: usize, v: usize) -> Refusal
+    requires { ⌜ AllStand (now s) (wordsIn (now work) 0 m) × Noted (now work) m v × (comf ≤ 10000000) × (m ≤ 5242880) ⌝ }
+    ensures { λ r. ⌜ r ≡ faultFrom (notedCode comf (now (work .entry)) m v) 3 (itemsOf (now (s .entry)) (wordsIn (now (work .entry)) 0 m)) ⌝ }
+{
+    let mut i: usize = 0;
+    while i < m {
+        let at = (get(work, i) % 16777216) as usize;
+        let code = item_code(s, at, comf, work, m, v);
+        if code != 0 {
+            return refuse(code, 3 + i, at);
+        }
+        i += 1;
+    }
+    refuse(0, 0, 0)
+}
+
+// The topology of a cell of n records that is readable, whose words in held order stand in the work
+// area.
+pub fn topology_fault(s: &[u8], n: usize, work: &mut [u8]) -> Refusal
+    requires { ⌜ Readable false (now s) n × DspmThere (now s) × HeldIn (now s) n (now work) × (16 * n ≤ length (now work)) ⌝ }
+    ensures { λ r. ⌜ r ≡ topologyFault (now (s .entry)) n ⌝ }
+{
+    let m = n - 3;
+    let comf = comf_of(s, n);
+    let vectors = prepare(s, work, m);
+    items_fault(s, comf, work, m, vectors)
+}

@@ -1,0 +1,57 @@
+// Notes in the second half of the work area, one for each item: of an edge the nodes at which it
+// begins and ends, of a feature its FOID. Rings and LNAM are then judged without looking at those
+// records again.
+ghost use Prim.Native.Nat.{_*_, _≤_};
+ghost use mathlib.Core.Path.{_≡_};
+ghost use lib.ListN.{length};
+ghost use Rattle.words.specs.Words.{wordsIn};
+ghost use Rattle.words.specs.Order.{Sorted};
+ghost use Rattle.names.specs.Held.{Stands};
+ghost use Rattle.topology.specs.Notes.{noteOf, Roomy, NotesPut, Prepared};
+use iso8211::field::head_of;
+use items::identity::foid_of;
+use ring::ends::ends_of;
+use words::find;
+use words::get;
+use words::put;
+use words::sort;
+
+// The note of the item whose word is w.
+fn note_of(s: &[u8], w: u64) -> u64
+    requires { ⌜ Stands (now s) w ⌝ }
+    ensures { λ r. ⌜ r ≡ noteOf (now (s .entry)) w ⌝ }
+{
+    let rank = w / 72057594037927936;
+    let at = (w % 16777216) as usize;
+    if rank == 3 {
+        return foid_of(s, at, head_of(s, at));
+    }
+    if rank == 2 {
+        return ends_of(s, at, head_of(s, at));
+    }
+    0
+}
+
+// The notes of the m items whose words stand at the front of the area, behind these.
+fn put_notes(s: &[u8], work: &mut [u8], m: usize)
+    requires { ⌜ Roomy (now s) (now work) m ⌝ }
+    ensures { λ _. ⌜ NotesPut (now (s .entry)) (now (work .entry)) m (now (work .exit)) ⌝ }
+{
+    let mut i: usize = 0;
+    while i < m {
+        let note = note_of(s, get(work, i));
+        put(work, m + i, note);
+        i += 1;
+    }
+}
+
+// The same, with the notes of the features in order; the answer is the number of vectors.
+pub fn prepare(s: &[u8], work: &mut [u8], m: usize) -> usize
+    requires { ⌜ Roomy (now s) (now work) m × Sorted (wordsIn (now work) 0 m) ⌝ }
+    ensures { λ r. ⌜ Prepared (now (s .entry)) (wordsIn (now (work .entry)) 0 m) m (now (work .exit)) r ⌝ }
+{
+    put_notes(s, work, m);
+    let vectors = find(work, 0, m, 216172782113783808);
+    sort(work, m + vectors, m - vectors);
+    vectors
+}
