@@ -1,0 +1,23 @@
+-- The low half is written; the bytes are those of the number.
+use Rattle.loader.proofs.AnswerLaws.{put-low}
+use borrow.Author.Needs.{needs}
+use Rattle.loader.proofs.answer.put_low.Statement.{statement}
+use Rattle.loader.proofs.answer.put_low.Tie as tie
+use Rattle.loader.proofs.answer.put_low.Reads as reads
+use Rattle.loader.proofs.answer.put_low.Lts as lts
+use Rattle.octets.proofs.number.put4.Reads as put4-reads
+
+cast-put4 : tie.Need-cast-put4
+cast-put4 c = search needs
+
+put4-requires : tie.Need-put4-requires
+put4-requires c κs = search needs
+
+same-length : tie.Need-same-length
+same-length c = search needs
+
+returns : tie.Need-returns
+returns c = search (needs, put-low)
+
+pub put-low-spec : {M : Type 1} → statement M
+put-low-spec = tie.close (tie.spec cast-put4 put4-requires same-length returns)

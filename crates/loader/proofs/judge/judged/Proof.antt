@@ -1,0 +1,49 @@
+-- Work first, then the verdict.
+use native.Mathlib.Omega.{arith}
+use Rattle.reader.proofs.CallLaws.{few}
+use Rattle.loader.proofs.JudgeLaws.{judged-work, judged-filed}
+use borrow.Author.Needs.{needs}
+use Rattle.loader.proofs.judge.judged.Statement.{statement}
+use Rattle.loader.proofs.judge.judged.Tie as tie
+use Rattle.loader.proofs.judge.judged.Reads as reads
+use Rattle.loader.proofs.judge.judged.Lts as lts
+use Rattle.loader.proofs.judge.cell_verdict.Reads as cell-verdict-reads
+use Rattle.reader.proofs.answer.answered.Reads as answered-reads
+use Rattle.reader.proofs.answer.filed.Reads as filed-reads
+
+mul-if1 : tie.Need-mul-if1
+mul-if1 c = omega (arith, few (c .before .before .pre))
+
+mul-answered : tie.Need-mul-answered
+mul-answered c = omega (arith, few (c .before .before .before .pre))
+
+answered-requires : tie.Need-answered-requires
+answered-requires c κs = search needs
+
+returns : tie.Need-returns
+returns c = search (needs, judged-work)
+
+cell-verdict-requires : tie.Need-cell-verdict-requires
+cell-verdict-requires c κs = search needs
+
+filed-requires : tie.Need-filed-requires
+filed-requires c κs = search needs
+
+same-length : tie.Need-same-length
+same-length c = search needs
+
+returns-2 : tie.Need-returns-2
+returns-2 c = search (needs, judged-filed)
+
+pub judged-spec : {M : Type 1} → statement M
+judged-spec =
+    tie.close
+    (tie.spec
+    mul-if1
+    mul-answered
+    answered-requires
+    returns
+    cell-verdict-requires
+    filed-requires
+    same-length
+    returns-2)

@@ -1,0 +1,77 @@
+-- Document 01's bench sheet as far as it is proved: one table, computed from the definitions. Assumes nothing.
+use Prim.Native.Nat.{ℕ, _+_, _-_, _*_, _/_, _%_}
+use mathlib.Core.Bool.{cond, _&&_, _||_}
+use mathlib.Core.List.{List, [], _∷_, _++_}
+use mathlib.Core.Path.{_≡_, refl}
+use lib.Dec.{eqb}
+use Rattle.octets.specs.Number.{byteAt, numAt, bytesOf}
+use Rattle.entries.specs.Rules.{allOf, through}
+use Rattle.table.specs.Table.{VRPT, SG2D, FSPT}
+use Rattle.values.specs.Class.{isCollection}
+use Rattle.values.specs.Rule.{within}
+use Rattle.items.specs.Identity.{rankOf, nameFrom}
+use Rattle.items.specs.Item.{Item, itemName}
+use Rattle.names.specs.Lookup.{nameIn, foundCode}
+use Rattle.names.specs.Held.{placeFrom, placeIn, objectIn}
+use Rattle.shape.specs.Shape.{magnitude, pairGood, coordinatesGood, isolatedGood, connectedGood, endGood, addTopi, edgeGood, classGood, vectorGood, isNode, pointGood, oneOrTwo, lineGood, areaGood, spatialGood, spatialCount, featureGood, shapeGood, shapeCode}
+use Rattle.pointer.specs.Pointer.{firstCode, namesCode, lnamsCode, pointerCode}
+use Rattle.ring.specs.Ring.{nodeStep, nodeWith, nodeOf, nodesOf, found, nodeIn, stepOf, usageGood, along, ringsFrom, ringsGood, ringCode}
+use Rattle.topology.specs.Topology.{itemCode, codeAmong, faultFrom, topologyOf}
+
+-- ---- small charts
+-- an item of this class, with one list
+unfoldable pub item : ℕ → ℕ → ℕ → List (List ℕ) → Item
+item rcnm rcid kind es = record { place = 0; rcnm = rcnm; rcid = rcid; prim = 3; objl = 1; foid = 0; entries = λ (k : ℕ). cond (eqb k kind) es [] }
+
+-- a connected node with one pair
+unfoldable pub node : ℕ → Item
+node rcid = item 120 rcid SG2D ((bytesOf 4 0 ++ bytesOf 4 0) ∷ [])
+
+-- "TOPI 1 (begin) .. TOPI 2 (end), the rest 255"
+unfoldable pub end : ℕ → ℕ → List ℕ
+end topi rcid = 120 ∷ (bytesOf 4 rcid ++ (255 ∷ 255 ∷ topi ∷ 255 ∷ []))
+
+unfoldable pub edge : ℕ → ℕ → ℕ → Item
+edge rcid from to = item 130 rcid VRPT (end 1 from ∷ end 2 to ∷ [])
+
+-- an edge of an area, ORNT 1 forward (F) or 2 reversed (R), of the exterior
+unfoldable pub along-edge : ℕ → ℕ → List ℕ
+along-edge ornt rcid = 130 ∷ (bytesOf 4 rcid ++ (ornt ∷ 1 ∷ 1 ∷ []))
+
+unfoldable pub area : List (List ℕ) → Item
+area es = item 100 1 FSPT es
+
+-- "Edges 1: A to B, 2: B to C, 3: A to C": the nodes A, B, C are 1, 2, 3
+unfoldable pub triangle : List (List ℕ) → List Item
+triangle es = node 1 ∷ node 2 ∷ node 3 ∷ edge 1 1 2 ∷ edge 2 2 3 ∷ edge 3 1 3 ∷ area es ∷ []
+
+-- two edges that end where they begin, at A
+unfoldable pub loops : List (List ℕ) → List Item
+loops es = node 1 ∷ edge 1 1 1 ∷ edge 2 1 1 ∷ area es ∷ []
+
+-- an isolated node at this X
+unfoldable pub isolated : ℕ → List Item
+isolated x = item 110 1 SG2D ((bytesOf 4 0 ++ bytesOf 4 x) ∷ []) ∷ []
+
+-- ---- the rows: what Judge's topology gives, at COMF 10,000,000
+unfoldable pub row : List Item → ℕ
+row all = topologyOf 10000000 all .code
+
+-- "4. Area 1F 2F 3R closes; 1F 2F 3F is 19."  "5. A loop edge alone is a ring; two such as exterior are 19."  "9. X = 1,800,000,000 at COMF
+-- 10,000,000 passes; one more is 17."
+pub bench-sheet : (
+    row (triangle (along-edge 1 1 ∷ along-edge 1 2 ∷ along-edge 2 3 ∷ []))
+    ∷ row (triangle (along-edge 1 1 ∷ along-edge 1 2 ∷ along-edge 1 3 ∷ []))
+    ∷ row (loops (along-edge 1 1 ∷ []))
+    ∷ row (loops (along-edge 1 1 ∷ along-edge 1 2 ∷ []))
+    ∷ row (isolated 1800000000)
+    ∷ row (isolated 1800000001)
+    ∷ [])
+    ≡ 0 ∷ 19 ∷ 0 ∷ 19 ∷ 0 ∷ 17 ∷ []
+unfolding item node end edge along-edge area triangle loops isolated row
+    numAt bytesOf allOf through within isCollection rankOf nameFrom itemName nameIn foundCode placeFrom placeIn objectIn
+    magnitude pairGood coordinatesGood isolatedGood connectedGood endGood addTopi edgeGood classGood vectorGood isNode pointGood oneOrTwo lineGood areaGood
+    spatialGood spatialCount featureGood shapeGood shapeCode firstCode namesCode lnamsCode pointerCode
+    nodeStep nodeWith nodeOf nodesOf found nodeIn stepOf usageGood along ringsFrom ringsGood ringCode
+    itemCode codeAmong faultFrom topologyOf
+bench-sheet = refl

@@ -1,0 +1,58 @@
+// Judge: a cell; answer only.
+ghost use Prim.Native.Nat.{_*_, _≤_};
+ghost use mathlib.Core.Path.{_≡_};
+ghost use lib.ListN.{length, replicate};
+ghost use Rattle.reader.specs.Reader.{Opened, Short};
+ghost use Rattle.loader.specs.Judge.{cellVerdict, judgeChecked, judgeOf};
+use chart::Refusal;
+use octets::area::clear;
+use reader::Answer;
+use reader::answer::answered;
+use reader::answer::filed;
+use reader::fault::cell_fault;
+use reader::front::Front;
+use reader::front::opened;
+use topology::topology_fault;
+
+// Codes 4 to 8, then 17 to 19, of a framed cell of n records.
+fn cell_verdict(cell: &[u8], n: usize, work: &mut [u8]) -> Refusal
+    requires { ⌜ Opened (now cell) n (now work) ⌝ }
+    ensures { λ r. ⌜ r ≡ cellVerdict (now (cell .entry)) n ⌝ }
+{
+    let r = cell_fault(cell, n, work);
+    let code = r.code;
+    if code != 0 {
+        return r;
+    }
+    topology_fault(cell, n, work)
+}
+
+// A framed cell of n records: code 3, then these.
+fn judged(cell: &[u8], n: usize, work: &mut [u8]) -> Answer
+    requires { ⌜ Short (now cell) n ⌝ }
+    ensures { λ r. ⌜ r ≡ judgeChecked (now (cell .entry)) (length (now (work .entry))) n ⌝ }
+{
+    if work.len() < 16 * n {
+        return answered(3, 0, 0, 16 * n, 0);
+    }
+    filed(1, cell_verdict(cell, n, work))
+}
+
+// The verdict on a cell. The work area is zero afterwards.
+pub fn judge(cell: &[u8], work: &mut [u8]) -> Answer
+    ensures { λ r. ⌜ r ≡ judgeOf (now (cell .entry)) (length (now (work .entry))) ⌝ }
+    ensures { λ _. ⌜ now (work .exit) ≡ replicate (length (now (work .entry))) 0 ⌝ }
+{
+    let front = opened(cell, 1);
+    match front {
+        Front::Refused(a) => {
+            clear(work);
+            a
+        }
+        Front::Count(n) => {
+            let a = judged(cell, n, work);
+            clear(work);
+            a
+        }
+    }
+}
