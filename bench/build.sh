@@ -20,8 +20,11 @@ sanitize_read alone
 sanitize_judge alone
 compare_frame probe
 compare_read probe
+compare_judge loader
+boundary_judge loader
 speed_frame probe
 speed_read probe
+speed_judge loader
 '
 
 # What every program may use: the reader, the generator, and what the programs share.
@@ -32,24 +35,9 @@ generator='generate_frame generate_broken generate_large generate_formats genera
     generate_judge generate_heavy faults_topology'
 shared='buffer areas tally speed cases_frame cases_read cases_judge'
 
-# Debian packages, fetched only where the compiler is missing.
-need() {
-    compiler=$1
-    shift
-    command -v "$compiler" >/dev/null 2>&1 && return
-    apt-get update </dev/null
-    DEBIAN_FRONTEND=noninteractive apt-get install -y --no-install-recommends "$@" </dev/null
-}
-
-need gcc gcc libc6-dev
-# The archives hold x86-64 code. On Arm the programs around them are made for x86-64 too, and static, so that the emulator needs no loader.
-case $(uname -m) in
-x86_64) cc='gcc' ;;
-aarch64)
-    need x86_64-linux-gnu-gcc gcc-x86-64-linux-gnu libc6-dev-amd64-cross
-    cc='x86_64-linux-gnu-gcc -static' ;;
-*) echo "bench/build.sh: neither x86-64 nor Arm" >&2; exit 2 ;;
-esac
+# shellcheck source=compiler.sh
+. "$here/compiler.sh"
+need gcc gcc libc6-dev # for this very machine
 alone="gcc $strict -O1 -g -fsanitize=address,undefined -fno-sanitize-recover=all"
 linked="$cc $strict -O2"
 

@@ -37,14 +37,6 @@ struct subject {
     size_t work_length, answer_length;
 };
 
-/* What document 01 says of this much work, where the generator knows what it says of enough. */
-static struct answer known_answer(const struct judge_case *made, size_t work_length)
-{
-    size_t needed = WORK_A_RECORD * made->records;
-    bool framed = made->verdict.code != CODE_LONG && made->verdict.code != CODE_FRAME;
-    return framed && work_length < needed ? (struct answer){.code = CODE_WORK, .number = (uint32_t)needed} : made->verdict;
-}
-
 static bool same_answer(const struct answer *left, const struct answer *right)
 {
     return left->code == right->code && left->file == right->file && left->record == right->record && left->number == right->number;
@@ -74,7 +66,7 @@ static void run_call(struct tally *tally, judge_candidate *candidate, const stru
     const struct judge_case *made = subject->made;
     uint8_t *work = lent_area(subject->work_length), *area = lent_area(subject->answer_length), *expected = lent_area(subject->answer_length);
     struct answer reader = reader_judge(subject->cell, made->cell.length, subject->work_length);
-    struct answer known = known_answer(made, subject->work_length);
+    struct answer known = judge_verdict(made, subject->work_length);
     put_answer(expected, subject->answer_length, &reader);
     uint32_t code = candidate(subject->cell, made->cell.length, work, subject->work_length, area, subject->answer_length);
     const char *wrong = NULL;

@@ -5,7 +5,7 @@
 #include <stddef.h>
 #include <stdint.h>
 
-/* A function with the meaning that loader.h gives s57_judge. */
+/* A function with the meaning that host/s57loader.h gives s57_judge. */
 typedef uint32_t judge_candidate(const uint8_t *cell, size_t cell_length, uint8_t *work, size_t work_length, uint8_t *answer,
                                  size_t answer_length);
 

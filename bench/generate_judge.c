@@ -254,3 +254,11 @@ struct judge_case judge_case_make(uint64_t seed)
     }
     return made;
 }
+
+struct answer judge_verdict(const struct judge_case *made, size_t work_length)
+{
+    enum { WORK_A_RECORD = 16 };
+    size_t needed = WORK_A_RECORD * made->records;
+    bool framed = made->verdict.code != CODE_LONG && made->verdict.code != CODE_FRAME;
+    return framed && work_length < needed ? (struct answer){.code = CODE_WORK, .number = (uint32_t)needed} : made->verdict;
+}

@@ -16,6 +16,9 @@ size_t judge_kinds(void);
 const char *judge_kind(size_t index);
 struct judge_case judge_case_make(uint64_t seed);
 
+/* What document 01 says with this much work, where the case knows what it says with enough. */
+struct answer judge_verdict(const struct judge_case *made, size_t work_length);
+
 /* Cells of up to 5 MB; cell 0 is the ordinary one. */
 size_t heavy_cells(void);
 const char *heavy_cell_name(size_t index);

@@ -1,7 +1,8 @@
 #!/bin/bash
 # The host tests: C programs, those that look at proved code linked with the archive of the crate
-# `probe`. Builds them, runs each, and adds up what they count; the last line is 'N passed, M failed', and
-# the status is 0 only where nothing failed. Wants `rt`, and the compilers that .ci/run installs.
+# `probe` or `loader`; then the example host. Builds them, runs each, and adds up what they count; the last
+# line is 'N passed, M failed', and the status is 0 only where nothing failed. Wants `rt`, and the
+# compilers that .ci/run installs.
 #
 # bench/build.sh ARCHIVE compiles the programs, bench/run.sh runs one, and bench/tests.txt names those
 # that are tests, one a line ('#' starts a comment). A test that doesn't end with the line 'N passed, M
@@ -13,17 +14,18 @@ if ! cd "$(dirname "$0")/.." || ! . bench/count.sh; then
 fi
 
 limit=${LIMIT:-1200}
-archive=$PWD/target/staticlib/libprobe.a
+archives=$PWD/target/staticlib
 export BENCH_OUT=$PWD/target/bench
 
 # ---- build, from nothing
-rm -rf "$BENCH_OUT" "$archive"
+rm -rf "$BENCH_OUT" "$archives" target/host
 mkdir -p "$BENCH_OUT"
-if ! rt staticlib probe || [ ! -f "$archive" ]; then
-    fault "rt staticlib probe made no $archive"
-    close
-fi
-bench/build.sh "$archive" || fault 'bench/build.sh could not build every program'
+for crate in probe loader; do
+    if ! rt staticlib "$crate" || [ ! -f "$archives/lib$crate.a" ]; then
+        fault "rt staticlib $crate made no $archives/lib$crate.a"
+    fi
+done
+bench/build.sh "$archives/libprobe.a" || fault 'bench/build.sh could not build every program'
 
 # ---- run
 tests=$(sed -e 's/#.*//' -e 's/[[:space:]]//g' -e '/^$/d' bench/tests.txt)
@@ -35,4 +37,5 @@ for name in $tests; do
         fault "$name was not built"
     fi
 done
+counted 'the example host' "$BENCH_OUT/host.log" timeout "$limit" host/tests.sh
 close

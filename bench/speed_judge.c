@@ -1,14 +1,14 @@
 /* Judge, proved over C: nanoseconds a byte on an ordinary cell and on heavy ones, as a table in Markdown.
    usage: speed_judge [ROUNDS] */
+#include "../host/s57loader.h"
 #include "cases_judge.h"
 #include "generate_judge.h"
-#include "loader.h"
 #include "speed.h"
 
 #include <stdio.h>
 #include <stdlib.h>
 
-enum { DEFAULT_ROUNDS = 20, ANSWER = 16, WORK_A_RECORD = 16 };
+enum { DEFAULT_ROUNDS = 20 };
 
 struct task {
     judge_candidate *candidate;
@@ -20,13 +20,13 @@ struct task {
 static uint64_t perform(void *context)
 {
     const struct task *task = context;
-    uint8_t answer[ANSWER];
+    uint8_t answer[S57_ANSWER];
     return task->candidate(task->made->cell.bytes, task->made->cell.length, task->work, task->work_length, answer, sizeof answer);
 }
 
 static struct pair measure_case(const struct judge_case *made, unsigned rounds)
 {
-    size_t work_length = WORK_A_RECORD * made->records;
+    size_t work_length = S57_WORK_A_RECORD * made->records;
     uint8_t *work = grow(NULL, work_length, 1);
     struct task left = {s57_judge, made, work, work_length}, right = {judge_reader, made, work, work_length};
     struct pair best = measure(perform, &left, &right, made->cell.length, rounds);

@@ -1,0 +1,94 @@
+/* The chart loader, for C and C++. Link with the archive of the crate `loader`, target/staticlib/libloader.a, which `rt staticlib loader` makes: x86-64
+   code, and of the C library it wants memcpy and memset alone. judge.c beside this file is a whole host.
+
+   It allocates nothing, keeps no state between calls, and opens no file: it works in the bytes that the host lends it. So it may be called from
+   several threads at once, each with areas of its own; several may judge the same cell's bytes. */
+#ifndef S57LOADER_H
+#define S57LOADER_H
+
+#include <stddef.h>
+#include <stdint.h>
+
+#ifdef __cplusplus
+extern "C" {
+#endif
+
+/* ---- sizes, in bytes */
+
+#define S57_LONGEST 5242880  /* a cell has at most that many; a longer one is refused with S57_LONG */
+#define S57_WORK_A_RECORD 16 /* of the work area, for each record of the cell, its first (record 0) counted too */
+#define S57_ANSWER 16        /* of the answer area, exactly */
+
+/* For a host that doesn't want to count records. No record is shorter than its leader of 24 bytes, one directory entry of 6 (a tag of 4, a length and a
+   position of one digit each), the byte 1E that ends the directory, and a field of one byte, 1E again. So work areas of these sizes always suffice, and
+   S57_WORK never comes: S57_WORK_FOR for a cell of that length, about half of it, and S57_WORK_MOST, which is 2,621,440, for every cell. */
+#define S57_SHORTEST_RECORD (24 + (4 + 1 + 1) + 1 + 1)
+#define S57_WORK_FOR(cell_len) ((size_t)(cell_len) / S57_SHORTEST_RECORD * S57_WORK_A_RECORD)
+#define S57_WORK_MOST (S57_LONGEST / S57_SHORTEST_RECORD * S57_WORK_A_RECORD)
+
+/* ---- the answer */
+
+/* The codes that s57_judge gives. They are tried in this order, 5 before 6 record by record, and 17 before 18 before 19 item by item; the first that
+   applies is the answer. docs/CODES.md has sentences for the screen. */
+enum s57_code {
+    S57_DONE = 0,      /* the cell is good */
+    S57_LONG = 1,      /* it has over S57_LONGEST bytes */
+    S57_FRAME = 2,     /* its framing is broken, or it has no bytes; record: the first bad one */
+    S57_WORK = 3,      /* the work area is too short: nothing is said of the cell but that it is framed; number: the bytes needed */
+    S57_DESCRIBED = 4, /* record 0 breaks its rule */
+    S57_LAYOUT = 5,    /* a record or field is missing, wrongly placed, undeclared or wrongly filled; record: that one, or where it is due */
+    S57_VALUE = 6,     /* a record holds a value that it must not hold; record: that one */
+    S57_TWICE = 7,     /* two records have one name; record: the first repeat */
+    S57_COUNTS = 8,    /* the counts in record 1 differ from the cell's records */
+    S57_SHAPE = 17,    /* an item's coordinates or pointers aren't those of its class or primitive; record: its place */
+    S57_POINTER = 18,  /* an item points to one that isn't there; record: its place */
+    S57_RING = 19      /* an area's rings don't close or are marked wrongly; record: its place */
+};
+
+/* The file that a refusal is about. */
+enum s57_file {
+    S57_NO_FILE = 0, /* with S57_DONE and S57_WORK */
+    S57_CELL = 1
+};
+
+struct s57_answer {
+    uint32_t code;   /* of enum s57_code; what the call returns too */
+    uint32_t file;   /* of enum s57_file */
+    uint32_t record; /* from 0, as it stands in the file. With 17 to 19 instead the item's place in held order: vectors of class 110, then 120, then
+                        130, then features, each by RCID ascending, the first of all at 3 */
+    uint32_t number; /* with S57_WORK the bytes that the work area must have, else 0 */
+};
+
+/* Reads an answer area of S57_ANSWER bytes: code, file, record, number, four bytes each, low byte first. */
+static inline struct s57_answer s57_answer_read(const uint8_t *area)
+{
+    uint32_t word[4];
+    struct s57_answer answer;
+    for (unsigned i = 0; i < 4; i++)
+        word[i] = (uint32_t)area[4 * i] | (uint32_t)area[4 * i + 1] << 8 | (uint32_t)area[4 * i + 2] << 16 | (uint32_t)area[4 * i + 3] << 24;
+    answer.code = word[0];
+    answer.file = word[1];
+    answer.record = word[2];
+    answer.number = word[3];
+    return answer;
+}
+
+/* ---- the call */
+
+/* Judges a cell: any bytes, of any length. Returns the code.
+
+   cell    is only read.
+   work    suffices with S57_WORK_A_RECORD bytes a record of the cell; more does no harm. What it held before doesn't matter. After every call, also one
+           that refuses, all of it is zero.
+   answer  of S57_ANSWER bytes is filled. One of any other length stays untouched, and the code is returned all the same.
+
+   What the host owes: each pointer leads to as many bytes as it says, at any address, aligned or not; the two areas overlap neither each other nor
+   the cell; and nobody else writes to any of the three, or reads the areas, until the call returns. No pointer is null, not even one of
+   length 0. Nothing is read or written through a pointer of length 0: the tests (bench/boundary_judge.c) lend one to an address that has no memory. */
+uint32_t s57_judge(const uint8_t *cell, size_t cell_len, uint8_t *work, size_t work_len, uint8_t *answer, size_t answer_len);
+
+#ifdef __cplusplus
+}
+#endif
+
+#endif
