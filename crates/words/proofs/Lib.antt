@@ -4,3 +4,4 @@ pub mod OrderLaws
 pub mod SortLaws
 pub mod FindLaws
 pub mod HeapLaws
+pub mod ReverseLaws

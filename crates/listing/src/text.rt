@@ -1,0 +1,103 @@
+// Numbers as text, parted by tabs, in lines: each function puts its text into the area from `at` on
+// and answers where it ends.
+ghost use Prim.Native.Nat.{_+_, _≤_};
+ghost use mathlib.Core.Path.{_≡_};
+ghost use mathlib.Core.List.{_∷_};
+ghost use lib.ListN.{length};
+ghost use Rattle.octets.specs.Digits.{digitsOf, fewest};
+ghost use Rattle.octets.specs.Area.{Wrote};
+ghost use Rattle.listing.specs.Text.{numberText, tabbed, lineOf, refusedText, headerText};
+use octets::area::copy;
+use octets::number::put1;
+
+// How many digits v takes at the least: 1 for 0.
+fn width_of(v: usize) -> usize
+    ensures { λ r. ⌜ (r ≡ fewest v) × (r ≤ 20) ⌝ }
+{
+    let mut left = v;
+    let mut n: usize = 1;
+    while 9 < left {
+        left = left / 10;
+        n += 1;
+    }
+    n
+}
+
+// The number v in w digits, with leading zeros; written from the back, so that no power of ten is
+// computed.
+fn put_digits(area: &mut [u8], at: usize, w: usize, v: usize) -> usize
+    requires { ⌜ at + w ≤ length (now area) ⌝ }
+    ensures { λ r. ⌜ Wrote (now (area .entry)) at (digitsOf w v) (now (area .exit)) r ⌝ }
+{
+    let mut left = v;
+    let mut c: usize = 0;
+    while c < w {
+        c += 1;
+        put1(area, at + (w - c), (48 + left % 10) as u8);
+        left = left / 10;
+    }
+    at + w
+}
+
+// A number in as few digits as it takes.
+fn put_number(area: &mut [u8], at: usize, v: usize) -> usize
+    requires { ⌜ at + length (numberText v) ≤ length (now area) ⌝ }
+    ensures { λ r. ⌜ Wrote (now (area .entry)) at (numberText v) (now (area .exit)) r ⌝ }
+{
+    let w = width_of(v);
+    put_digits(area, at, w, v)
+}
+
+// A tab, and a number.
+fn put_next(area: &mut [u8], at: usize, v: usize) -> usize
+    requires { ⌜ at + length (9 ∷ numberText v) ≤ length (now area) ⌝ }
+    ensures { λ r. ⌜ Wrote (now (area .entry)) at (9 ∷ numberText v) (now (area .exit)) r ⌝ }
+{
+    let next = put1(area, at, b'\t');
+    put_number(area, next, v)
+}
+
+// The rest of a line: each number behind a tab, and the line feed.
+fn put_tabbed(area: &mut [u8], at: usize, numbers: &[usize]) -> usize
+    requires { ⌜ at + length (tabbed (now numbers)) ≤ length (now area) ⌝ }
+    ensures { λ r. ⌜ Wrote (now (area .entry)) at (tabbed (now (numbers .entry))) (now (area .exit)) r ⌝ }
+{
+    let mut next = at;
+    let mut k: usize = 0;
+    while k < numbers.len() {
+        next = put_next(area, next, numbers[k]);
+        k += 1;
+    }
+    put1(area, next, b'\n')
+}
+
+// A line of numbers, `first` the first of them.
+pub fn put_line(area: &mut [u8], at: usize, first: usize, numbers: &[usize]) -> usize
+    requires { ⌜ at + length (lineOf first (now numbers)) ≤ length (now area) ⌝ }
+    ensures { λ r. ⌜ Wrote (now (area .entry)) at (lineOf first (now (numbers .entry))) (now (area .exit)) r ⌝ }
+{
+    let next = put_number(area, at, first);
+    put_tabbed(area, next, numbers)
+}
+
+// The one line of a refusal, at the front of the area.
+pub fn put_refused(area: &mut [u8], code: usize, file: usize, index: usize) -> usize
+    requires { ⌜ 71 ≤ length (now area) ⌝ }
+    ensures { λ r. ⌜ Wrote (now (area .entry)) 0 (refusedText code file index) (now (area .exit)) r ⌝ }
+{
+    let next = copy(b"refused", area, 0);
+    let numbers = [code, file, index];
+    put_tabbed(area, next, &numbers)
+}
+
+// The line that names the columns, at the front of the area.
+pub fn put_header(area: &mut [u8]) -> usize
+    requires { ⌜ 54 ≤ length (now area) ⌝ }
+    ensures { λ r. ⌜ Wrote (now (area .entry)) 0 headerText (now (area .exit)) r × (r ≡ 54) ⌝ }
+{
+    copy(
+        b"index\tname\tid\tversion\tattributes\tpointers\tcoordinates\n",
+        area,
+        0,
+    )
+}
