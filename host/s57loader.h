@@ -2,7 +2,8 @@
    code, and of the C library it wants memcpy and memset alone. judge.c beside this file is a whole host.
 
    It allocates nothing, keeps no state between calls, and opens no file: it works in the bytes that the host lends it. So it may be called from
-   several threads at once, each with areas of its own; several may judge the same cell's bytes. */
+   several threads at once, each with areas of its own; several may judge the same cell's bytes. On the stack it wants about 270 KB, nearly all of it one table
+   of fixed size: a thread with a small stack of its own needs that much and some to spare. */
 #ifndef S57LOADER_H
 #define S57LOADER_H
 

@@ -17,20 +17,9 @@ use Rattle.items.proofs.IdentityLaws.{word-name, word-place}
 use Rattle.names.specs.Names.{firstItem, wordsFrom, nameWords, Readable}
 use Rattle.names.specs.Lookup.{lookup, foundCode}
 use Rattle.names.specs.declared.lookup.Found.the-variants.{At, Nothing}
+use Rattle.names.proofs.NamesLaws.{from-length, from-at}
 use Rattle.names.proofs.ReadableLaws.{place-small}
 use Rattle.names.proofs.LookupLaws.{lookup-told, lookup-lost, found-cases, code-nothing, code-at}
-
--- ---- the words of the records, by index
-from-length : (n : ℕ) (s : List ℕ) (at : ℕ) → length (wordsFrom n s at) ≡ n
-unfolding wordsFrom
-from-length zero s at = refl
-from-length (suc n) s at = ap suc (from-length n s (endOf s at))
-
-from-at : (n : ℕ) (s : List ℕ) (j k : ℕ) → k < n → getD (wordsFrom n s (recordAt s j)) k 0 ≡ wordFor s (recordAt s (j + k))
-unfolding wordsFrom recordAt
-from-at zero s j k h = absurd (omega arith)
-from-at (suc n) s j zero h = rw (add-zero j)
-from-at (suc n) s j (suc k) h = from-at n s (suc j) k (omega arith) ∙ rw (suc-add j k, add-suc j k)
 
 -- a word of the file is a record's
 module _ (update : Bool) (s : List ℕ) (n : ℕ) where
@@ -39,14 +28,14 @@ module _ (update : Bool) (s : List ℕ) (n : ℕ) where
   word-record w h =
       let t = member-place w (nameWords update s n) (sym (sorted-member w (nameWords update s n)) ∙ h) in
       let less : t .0 < n - firstItem update = rw (from-length (n - firstItem update) s (recordAt s (firstItem update))) at (t .1) in
-      (firstItem update + t .0, omega arith, omega arith, sym (from-at (n - firstItem update) s (firstItem update) (t .0) less) ∙ t .2)
+      (firstItem update + t .0, omega arith, omega arith, sym (from-at (n - firstItem update) s (firstItem update) (recordAt s (firstItem update)) (t .0) refl less) ∙ t .2)
 
   record-word : (k : ℕ) → firstItem update ≤ k → k < n → isIn (wordFor s (recordAt s k)) (sorted (nameWords update s n)) ≡ true
   unfolding nameWords
   record-word k low high =
       let place : firstItem update + (k - firstItem update) ≡ k = omega arith in
       let there : getD (nameWords update s n) (k - firstItem update) 0 ≡ wordFor s (recordAt s k) =
-      from-at (n - firstItem update) s (firstItem update) (k - firstItem update) (omega arith) ∙ rw place in
+      from-at (n - firstItem update) s (firstItem update) (recordAt s (firstItem update)) (k - firstItem update) refl (omega arith) ∙ rw place in
       sorted-member (wordFor s (recordAt s k)) (nameWords update s n)
       ∙ (rw there at (member-at (nameWords update s n) (k - firstItem update) (omega (arith, from-length (n - firstItem update) s (recordAt s (firstItem update))))))
 
