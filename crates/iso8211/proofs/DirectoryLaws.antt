@@ -190,6 +190,12 @@ unfolding fieldAt directoryAt
 field-is s at base l p i k row e f g r =
     rw (g, rows-row (countAt s at) k s (lengthDigits s at) (positionDigits s at) (at + 24) (r .below), ← r .lengths, ← r .positions, ← f, ← e)
 
+-- its tag alone
+pub field-tag : (s : List ℕ) (at l p i k t : ℕ) → Rowed s at l p k → i ≡ at + 24 + k * rowWidth l p → t ≡ tagAt s i → t ≡ fieldAt s at k .tag
+unfolding rowAt
+field-tag s at l p i k t r place is =
+    is ∙ ap (λ (f : Field). f .tag) (field-is s at (baseAt s at) l p i k (rowAt s l p i) refl place refl r)
+
 -- the same where its start is known
 pub field-on-is : (s : List ℕ) (at l p i k t n start : ℕ) → Rowed s at l p k → i ≡ at + 24 + k * rowWidth l p → t ≡ tagAt s i → Number s (i + 4) l n → Due s at k start
     → record { tag = t; start = start; length = n } ≡ fieldAt s at k

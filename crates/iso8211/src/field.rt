@@ -74,6 +74,17 @@ pub fn field_at(s: &[u8], at: usize, h: Head, k: usize) -> Field
     }
 }
 
+// Its tag alone, for a walk that takes the rest of a field only where the tag is the one looked for.
+pub fn tag_of(s: &[u8], at: usize, h: Head, k: usize) -> u32
+    requires { ⌜ HeadOf (now s) at h × (k < countAt (now s) at) ⌝ }
+    ensures { λ r. ⌜ r ≡ fieldAt (now (s .entry)) at k .tag ⌝ }
+{
+    let l = h.lengths;
+    let p = h.positions;
+    let i = row_place(s, at, l, p, k);
+    tag_at(s, i)
+}
+
 // The same where it is known already where the field starts, as in a walk over all fields: its
 // position needs no reading.
 pub fn field_on(s: &[u8], at: usize, h: Head, k: usize, start: usize) -> Field

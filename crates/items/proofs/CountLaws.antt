@@ -1,26 +1,50 @@
 -- Laws of the code that counts a list's entries, field by field. Assumes nothing.
-use Prim.Native.Nat.{ℕ, _+_, _-_, _≤_, _<_}
+use Prim.Native.Nat.{ℕ, _+_, _-_, _/_, _≤_, _<_}
 use mathlib.Core.Bool.{true}
 use mathlib.Core.List.{List}
 use mathlib.Core.Path.{_≡_, sym, ap, _∙_}
+use mathlib.Core.Logic.{⊎-elim}
+use native.Mathlib.Nat.{div-eq-of-lt, div-eq-sub-div}
 use native.Mathlib.Omega.{arith}
-use lib.ListN.{length, take, drop, length-append}
+use lib.ListN.{length, take, drop, length-append, length-drop}
+use Rattle.octets.proofs.Cases.{le-or-lt}
 use Rattle.iso8211.specs.Field.{countAt, fieldAt}
 use Rattle.iso8211.specs.declared.field.Field.{Field}
 use Rattle.entries.specs.declared.Shape.{Shape}
 use Rattle.entries.specs.declared.Extent.{Extent}
-use Rattle.entries.specs.Entries.{entriesOf, extentOf}
-use Rattle.entries.proofs.EntriesLaws.{entries-nil}
+use Rattle.entries.specs.Entries.{entryLen, Sound, entriesOf, extentOf}
+use Rattle.entries.proofs.EntryLaws.{entry-within, entry-bare, fixed-long}
+use Rattle.entries.proofs.EntriesLaws.{entries-nil, entries-none, entries-more, by-entries}
 use Rattle.table.specs.Table.{rowOf, kindOf}
 use Rattle.layout.specs.Layout.{shapeOf}
 use Rattle.layout.specs.Record.{kindAt, contentAt}
 use Rattle.items.specs.Lists.{partAt, joinFrom, entriesAt, LaidOut}
+use Rattle.layout.proofs.Promise.{content-length}
 use Rattle.items.proofs.ListsLaws.{part-yes, part-no, entries-next, entries-end, entries-all, list-few}
 
--- ---- a field as it is read: f is field j, and n its kind
-module _ (s : List ℕ) (at k j : ℕ) (f : Field) (n : ℕ) (read : f ≡ fieldAt s at j) (kind : n ≡ kindOf (f .tag)) where
+-- ---- entries without a text are all of one length, and so counted by a division
+bare-short : (sh : Shape) (bs : List ℕ) → sh .unit ≡ 0 → 1 ≤ sh .fixed → entryLen sh bs ≡ 0 → length bs < sh .fixed
+bare-short sh bs bare some none =
+    ⊎-elim
+    (λ (h : sh .fixed ≤ length bs). absurd (omega (arith, entry-bare sh bs h bare)))
+    (λ (h : length bs < sh .fixed). h)
+    (le-or-lt (sh .fixed) (length bs))
+
+pub bare-count : (sh : Shape) → sh .unit ≡ 0 → 1 ≤ sh .fixed → (bs : List ℕ) → length (entriesOf sh bs) ≡ length bs / (sh .fixed)
+bare-count sh bare some =
+    by-entries (λ bs. length (entriesOf sh bs) ≡ length bs / (sh .fixed)) sh
+    (λ bs none. rw (entries-none sh bs none) (sym (div-eq-of-lt (bare-short sh bs bare some none))))
+    (λ bs more rest.
+    let one : entryLen sh bs ≡ sh .fixed = fixed-long sh bs bare more in
+    let within : sh .fixed ≤ length bs = omega (arith, one, entry-within sh bs) in
+    let cut : length (entriesOf sh bs) ≡ length (entriesOf sh (drop (entryLen sh bs) bs)) + 1 = rw (entries-more sh bs more) (omega arith) in
+    let less : length (drop (entryLen sh bs) bs) ≡ length bs - sh .fixed = length-drop (entryLen sh bs) bs ∙ ap (λ (n : ℕ). length bs - n) one in
+    cut ∙ ap (λ (n : ℕ). n + 1) (rest ∙ ap (λ (n : ℕ). n / (sh .fixed)) less) ∙ sym (div-eq-sub-div some within))
+
+-- ---- a field by its tag as it is read: t is the tag of field j, and n its kind
+module _ (s : List ℕ) (at k j t n : ℕ) (tagged : t ≡ fieldAt s at j .tag) (kind : n ≡ kindOf t) where
   kind-read : n ≡ kindAt s at j
-  kind-read = kind ∙ ap (λ (g : Field). kindOf (g .tag)) read
+  kind-read = kind ∙ ap kindOf tagged
 
   pub kind-same : n ≡ k → kindAt s at j ≡ k
   kind-same e = sym kind-read ∙ e
@@ -28,22 +52,32 @@ module _ (s : List ℕ) (at k j : ℕ) (f : Field) (n : ℕ) (read : f ≡ field
   pub kind-other : (n ≡ k → ⊥) → kindAt s at j ≡ k → ⊥
   kind-other ne e = ne (kind-read ∙ e)
 
-  -- the bytes that are lent of it
-  pub lent-is : take (f .start + (f .length - 1) - f .start) (drop (f .start) s) ≡ contentAt s at j
-  lent-is =
-      let long : f .start + (f .length - 1) - f .start ≡ f .length - 1 = omega arith in
-      rw (long, read)
-
-  pub part-counted : (sh : Shape) (all : Extent) → n ≡ k → sh ≡ shapeOf k
-      → all ≡ extentOf sh (take (f .start + (f .length - 1) - f .start) (drop (f .start) s))
-      → all .count ≡ length (entriesOf (shapeOf k) (partAt s at k j))
-  part-counted sh all same shape is =
-      ap (λ (x : Extent). x .count) is
-      ∙ ap (λ (l : List ℕ). length (entriesOf sh l)) (lent-is ∙ sym (part-yes s at k j (kind-same same)))
-      ∙ ap (λ (x : Shape). length (entriesOf x (partAt s at k j))) shape
-
   pub part-uncounted : (n ≡ k → ⊥) → 0 ≡ length (entriesOf (shapeOf k) (partAt s at k j))
   part-uncounted ne = rw (part-no s at k j (kind-other ne), entries-nil (shapeOf k))
+
+-- the bytes that are lent of it, f being the field
+pub lent-is : (s : List ℕ) (at j : ℕ) (f : Field) → f ≡ fieldAt s at j
+    → take (f .start + (f .length - 1) - f .start) (drop (f .start) s) ≡ contentAt s at j
+lent-is s at j f read =
+    let long : f .start + (f .length - 1) - f .start ≡ f .length - 1 = omega arith in
+    rw (long, read)
+
+module _ (s : List ℕ) (at k j t n : ℕ) (f : Field) (tagged : t ≡ fieldAt s at j .tag) (kind : n ≡ kindOf t) (same : n ≡ k) (read : f ≡ fieldAt s at j)
+    (sh : Shape) (shape : sh ≡ shapeOf k) where
+  pub part-counted : (all : Extent) → all ≡ extentOf sh (take (f .start + (f .length - 1) - f .start) (drop (f .start) s))
+      → all .count ≡ length (entriesOf (shapeOf k) (partAt s at k j))
+  part-counted all is =
+      ap (λ (x : Extent). x .count) is
+      ∙ ap (λ (l : List ℕ). length (entriesOf sh l)) (lent-is s at j f read ∙ sym (part-yes s at k j (kind-same s at k j t n tagged kind same)))
+      ∙ ap (λ (x : Shape). length (entriesOf x (partAt s at k j))) shape
+
+  pub part-divided : LaidOut s at → j < countAt s at → Sound sh → sh .unit ≡ 0 → (f .length - 1) / (sh .fixed) ≡ length (entriesOf (shapeOf k) (partAt s at k j))
+  part-divided laid less sound bare =
+      let long : f .length - 1 ≡ length (contentAt s at j) = rw read (omega (arith, content-length s at j (laid .inside) less)) in
+      ap (λ (m : ℕ). m / (sh .fixed)) long
+      ∙ sym (bare-count sh bare (sound .some) (contentAt s at j))
+      ∙ ap (λ (l : List ℕ). length (entriesOf sh l)) (sym (part-yes s at k j (kind-same s at k j t n tagged kind same)))
+      ∙ ap (λ (x : Shape). length (entriesOf x (partAt s at k j))) shape
 
 -- ---- turns of the count: n entries stand in the fields before field j, of m fields
 pub count-start : (s : List ℕ) (at k : ℕ) → length (entriesAt s at k) ≡ 0 + length (entriesOf (shapeOf k) (joinFrom (countAt s at - 0) s at k 0))

@@ -37,10 +37,10 @@ drop-taken (suc n) (suc m) [] = sym (take-nil (suc m - suc n))
 drop-taken (suc n) (suc m) (x ∷ l) = let less : suc m - suc n ≡ m - n = omega arith in rw less (drop-taken n m l)
 
 -- ---- a cursor whose bytes are used up
-spent-part : (s : List ℕ) (from to : ℕ) → to ≤ from → take (to - from) (drop from s) ≡ []
+pub spent-part : (s : List ℕ) (from to : ℕ) → to ≤ from → take (to - from) (drop from s) ≡ []
 spent-part s from to h = let none : to - from ≡ 0 = omega arith in rw none
 
-spent-left : (s : List ℕ) (at k : ℕ) (c : Cursor) → c .to ≤ c .from
+pub spent-left : (s : List ℕ) (at k : ℕ) (c : Cursor) → c .to ≤ c .from
     → left s at k c ≡ entriesOf (shapeOf k) (joinFrom (countAt s at - c .field) s at k (c .field))
 unfolding left
 spent-left s at k c h = rw (spent-part s (c .from) (c .to) h, entries-nil (shapeOf k))
@@ -71,18 +71,18 @@ module _ (s : List ℕ) (at k field₀ field m : ℕ) (all : m ≡ countAt s at)
         last = λ (e : c .to ≤ c .to). none;
       }
 
-  module _ (f : Field) (n : ℕ) (more : field < m) (read : f ≡ fieldAt s at field) (kind : n ≡ kindOf (f .tag)) where
+  module _ (t n : ℕ) (more : field < m) (tagged : t ≡ fieldAt s at field .tag) (kind : n ≡ kindOf t) where
     pub settled-skip : (n ≡ k → ⊥)
         → entriesOf (shapeOf k) (joinFrom (countAt s at - field₀) s at k field₀) ≡ entriesOf (shapeOf k) (joinFrom (countAt s at - (field + 1)) s at k (field + 1))
-    settled-skip ne = so ∙ entries-skip s at k field (omega arith) (kind-other s at k field f n read kind ne)
+    settled-skip ne = so ∙ entries-skip s at k field (omega arith) (kind-other s at k field t n tagged kind ne)
 
-    pub settled-found : (c : Cursor) → LaidOut s at → rowOf k .list ≡ true → c .to ≤ c .from → c .field ≡ field₀ → n ≡ k
+    pub settled-found : (c : Cursor) (f : Field) → LaidOut s at → rowOf k .list ≡ true → c .to ≤ c .from → c .field ≡ field₀ → n ≡ k → f ≡ fieldAt s at field
         → Settled s at k c (record { field = field + 1; from = f .start; to = f .start + (f .length - 1) })
     unfolding left
-    settled-found c laid list used first same =
+    settled-found c f laid list used first same read =
         let less : field < countAt s at = omega arith in
-        let e = kind-same s at k field f n read kind same in
-        let lent = lent-is s at k field f n read kind in
+        let e = kind-same s at k field t n tagged kind same in
+        let lent = lent-is s at field f read in
         let whole = field-whole s at k laid list field less e in
         let some = whole .1 in
         let few = count-few (shapeOf k) (contentAt s at field) in

@@ -10,6 +10,8 @@ use Rattle.items.specs.Lists.{joinFrom}
 use Rattle.items.specs.declared.cursor.Cursor.{Cursor}
 use Rattle.items.specs.declared.cursor.Next.{Next}
 use Rattle.items.specs.declared.cursor.Next.the-variants.{Entry, Done}
+use Rattle.items.specs.declared.cursor.Part.{Part}
+use Rattle.items.specs.declared.cursor.Part.the-variants as part
 
 -- the entries that are still to come: those of the bytes from `from` up to `to` of the file, then those of the fields from `field` on
 unfoldable pub left : List ℕ → ℕ → ℕ → Cursor → List (List ℕ)
@@ -36,3 +38,10 @@ Stepped s at k c (Entry from to next) =
     (left s at k c ≡ take (to - from) (drop from s) ∷ left s at k next)
     × (from < to) × (to ≤ length s) × CursorIn s at k next
 Stepped s at k c Done = left s at k c ≡ []
+
+-- r is the next entries, those that these bytes of the file hold, with the cursor behind them; or there are none
+unfoldable pub PartStepped : List ℕ → ℕ → ℕ → Cursor → Part → Type 0
+PartStepped s at k c (part.Bytes from to after) =
+    (left s at k c ≡ entriesOf (shapeOf k) (take (to - from) (drop from s)) ++ left s at k after)
+    × (from < to) × (to ≤ length s) × CursorIn s at k after × Whole (shapeOf k) (take (to - from) (drop from s))
+PartStepped s at k c part.Done = left s at k c ≡ []

@@ -10,18 +10,27 @@ use crate::shape::shape_of;
 use entries::extent_of;
 use iso8211::field::Head;
 use iso8211::field::field_at;
+use iso8211::field::tag_of;
 use table::kind_of;
 
-// How many entries field j brings to the list of kind k.
+// How many entries field j brings to the list of kind k. Without a text all are of one length, so that
+// none need be looked at.
 fn part_count(s: &[u8], at: usize, h: Head, k: usize, j: usize) -> usize
     requires { ⌜ Listed (now s) at h k × (j < countAt (now s) at) ⌝ }
     ensures { λ r. ⌜ r ≡ length (entriesOf (shapeOf k) (partAt (now (s .entry)) at k j)) ⌝ }
 {
-    let f = field_at(s, at, h, j);
-    if kind_of(f.tag) == k {
+    if kind_of(tag_of(s, at, h, j)) == k {
+        let f = field_at(s, at, h, j);
+        let size = f.length - 1;
+        let shape = shape_of(k);
+        let fixed = shape.fixed;
+        let unit = shape.unit;
+        if unit == 0 {
+            return size / fixed;
+        }
         let from = f.start;
-        let to = from + (f.length - 1);
-        let all = extent_of(&s[from..to], shape_of(k));
+        let to = from + size;
+        let all = extent_of(&s[from..to], shape);
         return all.count;
     }
     0

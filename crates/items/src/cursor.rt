@@ -16,6 +16,13 @@ pub enum Next {
     Done,
 }
 
+// The next entries, all that stand together, from where to where they stand in the file, and the cursor
+// behind them; or the end of the list.
+pub enum Part {
+    Bytes(usize, usize, Cursor),
+    Done,
+}
+
 // Before the first entry of any list.
 pub fn begin() -> Cursor
     ensures { λ r. ⌜ r ≡ record { field = 0; from = 0; to = 0 } ⌝ }

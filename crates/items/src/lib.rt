@@ -11,3 +11,4 @@ pub mod step;
 
 pub use cursor::Cursor;
 pub use cursor::Next;
+pub use cursor::Part;

@@ -1,12 +1,14 @@
-// The step through a list, entry by entry, whatever number of fields it stands in.
+// The step through a list, entry by entry or part by part, whatever number of fields it stands in.
 ghost use Rattle.items.specs.Lists.{Listed};
-ghost use Rattle.items.specs.Cursors.{CursorIn, Settled, Stepped};
+ghost use Rattle.items.specs.Cursors.{CursorIn, Settled, Stepped, PartStepped};
 use crate::cursor::Cursor;
 use crate::cursor::Next;
+use crate::cursor::Part;
 use crate::shape::shape_of;
 use entries::entry_len;
 use iso8211::field::Head;
 use iso8211::field::field_at;
+use iso8211::field::tag_of;
 use table::kind_of;
 
 // The same place with bytes before it: where those of the cursor are used up, they are those of the
@@ -23,16 +25,16 @@ fn settled(s: &[u8], at: usize, h: Head, k: usize, c: Cursor) -> Cursor
     let count = h.count;
     let mut field = c.field;
     while field < count {
-        let f = field_at(s, at, h, field);
-        field += 1;
-        if kind_of(f.tag) == k {
+        if kind_of(tag_of(s, at, h, field)) == k {
+            let f = field_at(s, at, h, field);
             let start = f.start;
             return Cursor {
-                field,
+                field: field + 1,
                 from: start,
                 to: start + (f.length - 1),
             };
         }
+        field += 1;
     }
     Cursor {
         field,
@@ -60,6 +62,30 @@ pub fn next(s: &[u8], at: usize, h: Head, k: usize, c: Cursor) -> Next
         Cursor {
             field,
             from: end,
+            to,
+        },
+    )
+}
+
+// The next entries of the list of kind k that stand together. A walk whose entries have one length goes
+// through the part by itself, and looks for a field only once for each.
+pub fn part(s: &[u8], at: usize, h: Head, k: usize, c: Cursor) -> Part
+    requires { ⌜ Listed (now s) at h k × CursorIn (now s) at k c ⌝ }
+    ensures { λ r. ⌜ PartStepped (now (s .entry)) at k c r ⌝ }
+{
+    let d = settled(s, at, h, k, c);
+    let from = d.from;
+    let to = d.to;
+    if to <= from {
+        return Part::Done;
+    }
+    let field = d.field;
+    Part::Bytes(
+        from,
+        to,
+        Cursor {
+            field,
+            from: to,
             to,
         },
     )

@@ -34,7 +34,7 @@ const FSPT: usize = 17;
 const POINTER: u32 = 18;
 
 // Whether every name in the list of kind k is one of the m items'.
-fn names_code(s: &[u8], at: usize, h: Head, k: usize, work: &[u8], m: usize, v: usize) -> u32
+pub fn names_code(s: &[u8], at: usize, h: Head, k: usize, work: &[u8], m: usize, v: usize) -> u32
     requires { ⌜ Listed (now s) at h k × (5 ≤ rowOf k .fixed) × Noted (now work) m v ⌝ }
     ensures { λ r. ⌜ r ≡ namesCode (indexOf (wordsIn (now (work .entry)) 0 m)) (entriesAt (now (s .entry)) at k) ⌝ }
 {
@@ -51,7 +51,7 @@ fn names_code(s: &[u8], at: usize, h: Head, k: usize, work: &[u8], m: usize, v: 
 }
 
 // Whether every LNAM of a feature is a feature's FOID.
-fn lnams_code(s: &[u8], at: usize, h: Head, work: &[u8], m: usize, v: usize) -> u32
+pub fn lnams_code(s: &[u8], at: usize, h: Head, work: &[u8], m: usize, v: usize) -> u32
     requires { ⌜ Listed (now s) at h FFPT × Noted (now work) m v ⌝ }
     ensures { λ r. ⌜ r ≡ lnamsCode (heldFoid (wordsIn (now (work .entry)) (m + v) (m - v))) (entriesAt (now (s .entry)) at FFPT) ⌝ }
 {

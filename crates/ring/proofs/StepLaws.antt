@@ -15,7 +15,8 @@ use Rattle.words.proofs.WordsLaws.{words-length, words-at}
 use Rattle.names.specs.Lookup.{nameIn, indexOf}
 use Rattle.names.specs.declared.lookup.Found.{Found}
 use Rattle.names.specs.declared.lookup.Found.the-variants.{At, Nothing}
-use Rattle.ring.specs.Ring.{nodeStep, nodeWith, endsWith, found, endIn, nodeAt, step, stepOf, usageGood}
+use Rattle.ring.specs.declared.step.Taken.the-variants.{Edge, Missing}
+use Rattle.ring.specs.Ring.{nodeStep, nodeWith, endsWith, found, endIn, nodeAt, step, stepOf, takenWith, takenOf, usageGood}
 
 -- ---- one pointer of an edge: b is its TOPI
 module _ (topi node b : ℕ) (e : List ℕ) (is : b ≡ byteAt e 7) where
@@ -32,36 +33,34 @@ pub ends-both : (es : List (List ℕ)) (a b : ℕ) → a ≡ through (nodeStep 1
 unfolding endsWith nodeWith
 ends-both es a b first last = rw (first, last)
 
--- ---- the note of the edge that has a name: r is what the look-up answered
+-- ---- the note of an edge
 getD-past : (l : List ℕ) (i : ℕ) → length l ≤ i → getD l i 0 ≡ 0
 getD-past [] i h = refl
 getD-past (x ∷ l) zero h = absurd (omega arith)
 getD-past (x ∷ l) (suc i) h = getD-past l i (omega arith)
 
-module _ (work : List ℕ) (m v name : ℕ) (r : Found) (is : r ≡ indexOf (wordsIn work 0 m) name) where
-  pub ends-none : r ≡ Nothing → 0 ≡ found (wordsIn work m v) (indexOf (wordsIn work 0 m) name)
-  unfolding found
-  ends-none e = rw (← is, e)
+module _ (work : List ℕ) (m v i : ℕ) where
+  pub ends-past : v ≤ i → 0 ≡ getD (wordsIn work m v) i 0
+  ends-past h = sym (getD-past (wordsIn work m v) i (omega (arith, words-length work m v)))
 
-  module _ (i : ℕ) (e : r ≡ At i) where
-    pub ends-past : v ≤ i → 0 ≡ found (wordsIn work m v) (indexOf (wordsIn work 0 m) name)
-    unfolding found
-    ends-past h = rw (← is, e) (sym (getD-past (wordsIn work m v) i (omega (arith, words-length work m v))))
+  pub ends-here : (x : ℕ) → i < v → x ≡ wordAt work (m + i) → x ≡ getD (wordsIn work m v) i 0
+  ends-here x h there = there ∙ sym (words-at work m v i h)
 
-    pub ends-here : i < v → (x : ℕ) → x ≡ wordAt work (m + i) → x ≡ found (wordsIn work m v) (indexOf (wordsIn work 0 m) name)
-    unfolding found
-    ends-here h x there = rw (← is, e) (there ∙ sym (words-at work m v i h))
+-- ---- the step along an edge: f is what the look-up of its name answered
+module _ (ws ends e : List ℕ) (name : ℕ) (f : Found) (named : name ≡ nameIn e) (is : f ≡ indexOf ws name) where
+  pub step-missing : f ≡ Nothing → Missing ≡ takenOf (indexOf ws) (nodeAt ws ends) e
+  unfolding takenOf takenWith
+  step-missing h = rw (← named, ← is, h)
 
--- ---- the step along an edge: w is the word of its ends
-module _ (ws ends e : List ℕ) (name w a b u : ℕ) (named : name ≡ nameIn e) (noted : w ≡ found ends (indexOf ws name))
-    (first : a ≡ w / 4294967296) (last : b ≡ w % 4294967296) (usage : u ≡ byteAt e 6) where
-  pub step-back : byteAt e 5 ≡ 2 → step b a u ≡ stepOf (nodeAt ws ends) e
-  unfolding stepOf nodeAt endIn
-  step-back h = rw (eq-eqb (byteAt e 5) 2 h, ← named, ← noted, ← first, ← last, usage)
+  -- w is the word of its ends
+  module _ (i w a b u : ℕ) (at : f ≡ At i) (noted : w ≡ getD ends i 0) (first : a ≡ w / 4294967296) (last : b ≡ w % 4294967296) (usage : u ≡ byteAt e 6) where
+    pub step-back : byteAt e 5 ≡ 2 → Edge (step b a u) ≡ takenOf (indexOf ws) (nodeAt ws ends) e
+    unfolding takenOf takenWith stepOf nodeAt endIn found
+    step-back h = rw (eq-eqb (byteAt e 5) 2 h, ← named, ← is, at, ← noted, ← first, ← last, usage)
 
-  pub step-forth : (byteAt e 5 ≡ 2 → ⊥) → step a b u ≡ stepOf (nodeAt ws ends) e
-  unfolding stepOf nodeAt endIn
-  step-forth ne = rw (ne-eqb (byteAt e 5) 2 ne, ← named, ← noted, ← first, ← last, usage)
+    pub step-forth : (byteAt e 5 ≡ 2 → ⊥) → Edge (step a b u) ≡ takenOf (indexOf ws) (nodeAt ws ends) e
+    unfolding takenOf takenWith stepOf nodeAt endIn found
+    step-forth ne = rw (ne-eqb (byteAt e 5) 2 ne, ← named, ← is, at, ← noted, ← first, ← last, usage)
 
 -- ---- the usage of an edge
 pub usage-within : (exterior : Bool) (u : ℕ) → not exterior ≡ true → eqb u 2 ≡ usageGood exterior u

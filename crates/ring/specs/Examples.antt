@@ -7,8 +7,9 @@ use Rattle.octets.specs.Number.{numAt}
 use Rattle.entries.specs.Rules.{through}
 use Rattle.items.specs.Identity.{rankOf, nameFrom}
 use Rattle.items.specs.Item.{Item}
-use Rattle.names.specs.Lookup.{nameIn, indexFrom, indexOf}
-use Rattle.ring.specs.Ring.{nodeStep, nodeWith, found, stepOf, usageGood, along, ringsFrom, ringsGood, ringCode, endsWith, endIn, nodeAt}
+use Rattle.names.specs.Lookup.{nameIn, indexFrom, indexOf, foundCode}
+use Rattle.pointer.specs.Pointer.{firstCode, namesCode}
+use Rattle.ring.specs.Ring.{nodeStep, nodeWith, found, stepOf, usageGood, along, ringsFrom, ringsGood, ringCode, endsWith, endIn, nodeAt, areaCode}
 
 -- ---- an edge's pointers: NAME of a connected node, ORNT, USAG, TOPI, MASK
 unfoldable pointer : ℕ → ℕ → List ℕ
@@ -75,3 +76,12 @@ interior = refl
 second-exterior : ringsGood corner (edge 1 1 3 ∷ edge 2 1 1 ∷ edge 3 2 1 ∷ edge 4 1 1 ∷ []) ≡ false
 unfolding word corner edge numAt rankOf nameFrom nameIn indexFrom indexOf found endIn nodeAt stepOf usageGood along ringsFrom ringsGood
 second-exterior = refl
+
+-- Pointer comes before Ring: of two edges that run in no ring the second is missing
+missing-first : areaCode (indexOf (word 1 ∷ [])) corner (edge 1 1 1 ∷ edge 3 1 1 ∷ []) ≡ 18
+unfolding word corner edge numAt rankOf nameFrom nameIn indexFrom indexOf foundCode firstCode namesCode found endIn nodeAt stepOf usageGood along ringsFrom ringsGood areaCode
+missing-first = refl
+
+both-there : areaCode (indexOf (word 1 ∷ word 3 ∷ [])) corner (edge 1 1 1 ∷ edge 3 1 1 ∷ []) ≡ 19
+unfolding word corner edge numAt rankOf nameFrom nameIn indexFrom indexOf foundCode firstCode namesCode found endIn nodeAt stepOf usageGood along ringsFrom ringsGood areaCode
+both-there = refl

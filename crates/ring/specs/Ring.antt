@@ -12,7 +12,10 @@ use Rattle.names.specs.Lookup.{nameIn, indexOf}
 use Rattle.names.specs.Held.{placeIn}
 use Rattle.names.specs.declared.lookup.Found.{Found}
 use Rattle.names.specs.declared.lookup.Found.the-variants.{At, Nothing}
+use Rattle.pointer.specs.Pointer.{firstCode, namesCode}
 use Rattle.ring.specs.declared.step.Step.{Step}
+use Rattle.ring.specs.declared.step.Taken.{Taken}
+use Rattle.ring.specs.declared.step.Taken.the-variants.{Edge, Missing}
 
 -- ---- where an edge begins and ends
 -- the RCID of the node that a VRPT names, if it has this TOPI: "TOPI 1 (begin) .. TOPI 2 (end)"
@@ -85,3 +88,28 @@ endIn topi w = cond (eqb topi 1) (w / 4294967296) (w % 4294967296)
 -- by the words of all names and those of the edges' ends
 unfoldable pub nodeAt : List ℕ → List ℕ → ℕ → ℕ → ℕ
 nodeAt ws ends topi name = endIn topi (found ends (indexOf ws name))
+
+-- ---- the code's way through an area, which looks each edge up once: its names and its rings together
+-- an FSPT by what the look-up of its name answered
+unfoldable pub takenWith : Found → Step → Taken
+takenWith (At k) t = Edge t
+takenWith Nothing t = Missing
+
+unfoldable pub takenOf : (ℕ → Found) → (ℕ → ℕ → ℕ) → List ℕ → Taken
+takenOf place node e = takenWith (place (nameIn e)) (stepOf node e)
+
+-- the edges behind t, which joins the ring that began at `start`
+unfoldable pub behind : (ℕ → ℕ → ℕ) → Bool → ℕ → Step → List (List ℕ) → Bool
+behind node exterior start t es =
+    usageGood exterior (t .usage) && cond (eqb (t .to) start) (ringsFrom node false false 0 0 es) (ringsFrom node exterior true start (t .to) es)
+
+-- every name is found, and the rings are good
+unfoldable pub namedAnd : (ℕ → Found) → List (List ℕ) → Bool → Bool
+namedAnd place es good = eqb (namesCode place es) 0 && good
+
+unfoldable pub areaGood : (ℕ → Found) → (ℕ → ℕ → ℕ) → List (List ℕ) → Bool
+areaGood place node es = namedAnd place es (ringsGood node es)
+
+-- the code of an area's FSPT, by Pointer and then by Ring
+unfoldable pub areaCode : (ℕ → Found) → (ℕ → ℕ → ℕ) → List (List ℕ) → ℕ
+areaCode place node es = firstCode (namesCode place es) (cond (ringsGood node es) 0 19)

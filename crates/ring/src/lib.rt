@@ -1,22 +1,20 @@
 // Document 01's Ring of one item, code 19: whether the edges of an area run in closed rings, the
-// first of them exterior. It takes the lists from `items`; where an edge begins and ends it takes
-// from the notes in the work area, which `ends_of` makes.
-ghost use Prim.Native.Nat.{_≤_};
+// first of them exterior; judged together with its Pointer, code 18, so that an edge is looked up once.
+// It takes the lists from `items` and the code of missing names from `pointer`; where an edge begins
+// and ends it takes from the notes in the work area, which `ends_of` makes.
 ghost use mathlib.Core.Path.{_≡_};
-ghost use Rattle.iso8211.specs.Field.{HeadOf};
 ghost use Rattle.table.specs.Table.{FSPT};
 ghost use Rattle.words.specs.Words.{wordsIn};
-ghost use Rattle.items.specs.Lists.{entriesAt, LaidOut, Listed};
-ghost use Rattle.items.specs.Identity.{Identified};
-ghost use Rattle.items.specs.Item.{itemAt};
+ghost use Rattle.items.specs.Lists.{entriesAt, Listed};
+ghost use Rattle.names.specs.Lookup.{indexOf};
 ghost use Rattle.names.specs.Held.{Noted};
-ghost use Rattle.ring.specs.Ring.{usageGood, ringsGood, ringCode, nodeAt};
+ghost use Rattle.ring.specs.Ring.{usageGood, nodeAt, areaGood, areaCode};
 use iso8211::field::Head;
 use items::Next;
 use items::cursor::begin;
-use items::identity::prim_of;
-use items::identity::rcnm_of;
 use items::step::next;
+use pointer::names_code;
+use step::Taken;
 use step::step_of;
 
 pub mod ends;
@@ -41,56 +39,60 @@ fn usage_good(exterior: bool, usage: u32) -> bool
     usage == 3
 }
 
-// Whether the edges of the area at `at` run in closed rings.
-fn rings_good(s: &[u8], at: usize, h: Head, work: &[u8], m: usize, v: usize) -> bool
+// Whether every edge of the area at `at` is there and they run in closed rings. In a ring t is the
+// edge before the cursor.
+fn rings_closed(s: &[u8], at: usize, h: Head, work: &[u8], m: usize, v: usize) -> bool
     requires { ⌜ Listed (now s) at h FSPT × Noted (now work) m v ⌝ }
-    ensures { λ r. ⌜ r ≡ ringsGood (nodeAt (wordsIn (now (work .entry)) 0 m) (wordsIn (now (work .entry)) m v)) (entriesAt (now (s .entry)) at FSPT) ⌝ }
+    ensures { λ r. ⌜ r ≡ areaGood (indexOf (wordsIn (now (work .entry)) 0 m)) (nodeAt (wordsIn (now (work .entry)) 0 m) (wordsIn (now (work .entry)) m v)) (entriesAt (now (s .entry)) at FSPT) ⌝ }
 {
     let mut exterior = true;
     let mut c = begin();
     'rings: loop {
-        let Next::Entry(from, to, _) = next(s, at, h, FSPT, c) else {
+        let Next::Entry(from, to, after) = next(s, at, h, FSPT, c) else {
             return true;
         };
-        let first = step_of(&s[from..to], work, m, v);
+        let Taken::Edge(first) = step_of(&s[from..to], work, m, v) else {
+            break 'rings;
+        };
         let start = first.from;
-        let mut here = start;
+        let mut t = first;
+        c = after;
         loop {
-            let Next::Entry(from, to, after) = next(s, at, h, FSPT, c) else {
-                return false;
-            };
-            let t = step_of(&s[from..to], work, m, v);
-            if t.from != here {
-                break 'rings;
-            }
             if !usage_good(exterior, t.usage) {
                 break 'rings;
             }
-            c = after;
-            let end = t.to;
-            if end == start {
+            if t.to == start {
                 exterior = false;
                 continue 'rings;
             }
-            here = end;
+            let Next::Entry(from, to, after) = next(s, at, h, FSPT, c) else {
+                return false;
+            };
+            let Taken::Edge(u) = step_of(&s[from..to], work, m, v) else {
+                break 'rings;
+            };
+            if u.from != t.to {
+                break 'rings;
+            }
+            t = u;
+            c = after;
         }
     }
     false
 }
 
-// The code of the item at `at`, by the words and notes of m items, of which v are vectors.
-pub fn ring_code(s: &[u8], at: usize, h: Head, work: &[u8], m: usize, v: usize) -> u32
-    requires { ⌜ LaidOut (now s) at × HeadOf (now s) at h × Identified (now s) at × Noted (now work) m v ⌝ }
-    ensures { λ r. ⌜ r ≡ ringCode (nodeAt (wordsIn (now (work .entry)) 0 m) (wordsIn (now (work .entry)) m v)) (itemAt (now (s .entry)) at) ⌝ }
+// The code of the FSPT of the area at `at`, by the words and notes of m items, of which v are
+// vectors. Only of an area with a fault the names are looked up again, to tell which it is.
+pub fn area_code(s: &[u8], at: usize, h: Head, work: &[u8], m: usize, v: usize) -> u32
+    requires { ⌜ Listed (now s) at h FSPT × Noted (now work) m v ⌝ }
+    ensures { λ r. ⌜ r ≡ areaCode (indexOf (wordsIn (now (work .entry)) 0 m)) (nodeAt (wordsIn (now (work .entry)) 0 m) (wordsIn (now (work .entry)) m v)) (entriesAt (now (s .entry)) at FSPT) ⌝ }
 {
-    if rcnm_of(s, at, h) != 100 {
+    if rings_closed(s, at, h, work, m, v) {
         return 0;
     }
-    if prim_of(s, at, h) != 3 {
-        return 0;
-    }
-    if rings_good(s, at, h, work, m, v) {
-        return 0;
+    let missing = names_code(s, at, h, FSPT, work, m, v);
+    if missing != 0 {
+        return missing;
     }
     RING
 }

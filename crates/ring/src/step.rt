@@ -1,11 +1,11 @@
 // An edge as an area runs along it.
-ghost use Prim.Native.Nat.{_≤_, _<_};
+ghost use Prim.Native.Nat.{_≤_};
 ghost use mathlib.Core.Path.{_≡_};
-ghost use lib.ListN.{length};
+ghost use lib.ListN.{length, getD};
 ghost use Rattle.words.specs.Words.{wordsIn};
 ghost use Rattle.names.specs.Lookup.{indexOf};
 ghost use Rattle.names.specs.Held.{Noted};
-ghost use Rattle.ring.specs.Ring.{found, stepOf, nodeAt};
+ghost use Rattle.ring.specs.Ring.{takenOf, nodeAt};
 use names::lookup::Found;
 use names::lookup::index_of;
 use names::lookup::name_in;
@@ -19,14 +19,17 @@ pub struct Step {
     pub usage: u32,
 }
 
-// The ends of the edge that has this name, by its note; 0 where there is none.
-fn ends_at(work: &[u8], m: usize, v: usize, name: u64) -> u64
-    requires { ⌜ Noted (now work) m v × (name < 17179869184) ⌝ }
-    ensures { λ r. ⌜ r ≡ found (wordsIn (now (work .entry)) m v) (indexOf (wordsIn (now (work .entry)) 0 m) name) ⌝ }
+// The step of an FSPT, if a record has its name.
+pub enum Taken {
+    Edge(Step),
+    Missing,
+}
+
+// The ends of the edge that is item i, by its note; 0 where it is none.
+fn ends_at(work: &[u8], m: usize, v: usize, i: usize) -> u64
+    requires { ⌜ Noted (now work) m v ⌝ }
+    ensures { λ r. ⌜ r ≡ getD (wordsIn (now (work .entry)) m v) i 0 ⌝ }
 {
-    let Found::At(i) = index_of(work, 0, m, name) else {
-        return 0;
-    };
     if v <= i {
         return 0;
     }
@@ -34,24 +37,27 @@ fn ends_at(work: &[u8], m: usize, v: usize, name: u64) -> u64
 }
 
 // The step of one FSPT.
-pub fn step_of(e: &[u8], work: &[u8], m: usize, v: usize) -> Step
+pub fn step_of(e: &[u8], work: &[u8], m: usize, v: usize) -> Taken
     requires { ⌜ (8 ≤ length (now e)) × Noted (now work) m v ⌝ }
-    ensures { λ r. ⌜ r ≡ stepOf (nodeAt (wordsIn (now (work .entry)) 0 m) (wordsIn (now (work .entry)) m v)) (now (e .entry)) ⌝ }
+    ensures { λ r. ⌜ r ≡ takenOf (indexOf (wordsIn (now (work .entry)) 0 m)) (nodeAt (wordsIn (now (work .entry)) 0 m) (wordsIn (now (work .entry)) m v)) (now (e .entry)) ⌝ }
 {
-    let ends = ends_at(work, m, v, name_in(e));
+    let Found::At(i) = index_of(work, 0, m, name_in(e)) else {
+        return Taken::Missing;
+    };
+    let ends = ends_at(work, m, v, i);
     let begin = (ends / 4294967296) as u32;
     let end = (ends % 4294967296) as u32;
     let usage = wide(e[6]);
     if e[5] == 2 {
-        return Step {
+        return Taken::Edge(Step {
             from: end,
             to: begin,
             usage,
-        };
+        });
     }
-    Step {
+    Taken::Edge(Step {
         from: begin,
         to: end,
         usage,
-    }
+    })
 }

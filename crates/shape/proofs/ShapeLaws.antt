@@ -4,13 +4,13 @@ use mathlib.Core.Bool.{Bool, true, false, not, cond, _&&_, _||_}
 use mathlib.Core.List.{List}
 use mathlib.Core.Path.{_≡_, refl, sym, ap, _∙_}
 use native.Mathlib.Omega.{arith}
-use lib.ListN.{length, take, drop}
+use lib.ListN.{length, take, drop, length-take, length-drop}
 use lib.Dec.{eqb, leb}
 use borrow.Author.Tests.{eq-eqb, ne-eqb, lt-leb, le-leb}
 use Rattle.octets.specs.Number.{byteAt, numAt}
 use Rattle.octets.proofs.Tests.{chain, then-same, else-same, told-no, told-yes}
 use Rattle.entries.specs.Rules.{allOf, through}
-use Rattle.table.specs.Table.{rowOf, VRPT, SG2D, SG3D, FSPT}
+use Rattle.table.specs.Table.{VRPT, SG2D, SG3D, FSPT}
 use Rattle.values.specs.Class.{isCollection}
 use Rattle.items.specs.Lists.{entriesAt}
 use Rattle.items.specs.Cursors.{left, Stepped}
@@ -19,8 +19,7 @@ use Rattle.items.specs.Item.{Item, itemAt}
 use Rattle.items.specs.declared.cursor.Cursor.{Cursor}
 use Rattle.items.specs.declared.cursor.Next.{Next}
 use Rattle.items.specs.declared.cursor.Next.the-variants.{Entry}
-use Rattle.items.proofs.KindLaws.{sg2d-fixed, sg3d-fixed}
-use Rattle.items.proofs.CursorLaws.{begin-left, next-left, next-bytes, through-on}
+use Rattle.items.proofs.CursorLaws.{begin-left, next-left, through-on}
 use Rattle.shape.specs.Shape.{magnitude, pairGood, many, isolatedGood, addTopi, spatialGood, spatialCount, featureGood, shapeGood, shapeCode}
 
 -- ---- a number as it was read: a test on it is the test on what it is
@@ -43,13 +42,6 @@ if-no b x y a e h = rw (else-same b x y e) h
 -- "search reads depth N" closes a return of a function whose answer is made of tests on numbers that were read
 pub ruleset reads = (chain, read-eq, read-ne, read-same, if-yes, if-no)
 
--- ---- pairs and soundings have eight bytes at least
-pub sg2d-wide : 8 ≤ rowOf SG2D .fixed
-sg2d-wide = omega (arith, sg2d-fixed)
-
-pub sg3d-wide : 8 ≤ rowOf SG3D .fixed
-sg3d-wide = omega (arith, sg3d-fixed)
-
 -- ---- limits: u is what was read, m its magnitude
 module _ (comf : ℕ) (e : List ℕ) (u m : ℕ) (y : u ≡ numAt e 0 4) (far : m ≡ magnitude u) where
   pub pair-no : 90 * comf < m → false ≡ pairGood comf e
@@ -63,10 +55,9 @@ module _ (comf : ℕ) (e : List ℕ) (u m : ℕ) (y : u ≡ numAt e 0 4) (far : 
       let next : magnitude (numAt e 4 4) ≡ n = sym (farther ∙ ap magnitude x) in
       rw (is, next, le-leb m (90 * comf) h)
 
--- ---- the coordinates of an entry are there
-module _ (s : List ℕ) (at k : ℕ) (c : Cursor) (r : Next) (stepped : Stepped s at k c r) (from to : ℕ) (next : Cursor) (is : r ≡ Entry from to next) where
-  pub pair-bytes : 8 ≤ rowOf k .fixed → 8 ≤ length (take (to - from) (drop from s))
-  pair-bytes h = omega (arith, next-bytes s at k c r stepped from to next is (rowOf k .fixed) refl)
+-- ---- an entry of n bytes as it is lent of a part has eight at least
+pub stride-long : (b : List ℕ) (at n : ℕ) → 8 ≤ n → n ≤ length b - at → 8 ≤ length (take (at + n - at) (drop at b))
+stride-long b at n some more = rw (length-take, length-drop) (omega arith)
 
 -- ---- turns of the sum of TOPI, which stays small as the list has two entries
 pub topi-start : (s : List ℕ) (at : ℕ) (c : Cursor) → c ≡ record { field = 0; from = 0; to = 0 } → many (itemAt s at) VRPT ≡ 2

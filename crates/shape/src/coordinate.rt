@@ -1,7 +1,9 @@
 // Coordinates and their limits.
 ghost use Prim.Native.Nat.{_≤_};
+ghost use mathlib.Core.Bool.{false};
 ghost use mathlib.Core.Path.{_≡_};
 ghost use lib.ListN.{length};
+ghost use Rattle.entries.specs.Entries.{entriesOf};
 ghost use Rattle.entries.specs.Rules.{allOf};
 ghost use Rattle.table.specs.Table.{rowOf};
 ghost use Rattle.iso8211.specs.Field.{HeadOf};
@@ -9,9 +11,9 @@ ghost use Rattle.items.specs.Lists.{entriesAt, LaidOut, Listed};
 ghost use Rattle.items.specs.Item.{itemAt};
 ghost use Rattle.shape.specs.Shape.{magnitude, pairGood, coordinatesGood};
 use iso8211::field::Head;
-use items::Next;
+use items::Part;
 use items::cursor::begin;
-use items::step::next;
+use items::step::part;
 use octets::number::get4;
 
 // The lists' numbers in the table.
@@ -44,17 +46,33 @@ fn pair_good(e: &[u8], comf: u32) -> bool
     x <= 180 * degree
 }
 
-// Whether those of the list of kind k, pairs or soundings, all are.
-fn pairs_good(s: &[u8], at: usize, h: Head, k: usize, comf: u32) -> bool
-    requires { ⌜ Listed (now s) at h k × (8 ≤ rowOf k .fixed) × (comf ≤ 10000000) ⌝ }
+// Whether those of a part of a list all are, its entries having `size` bytes each.
+fn part_pairs(part: &[u8], size: usize, comf: u32) -> bool
+    requires { ⌜ (8 ≤ size) × (comf ≤ 10000000) ⌝ }
+    ensures { λ r. ⌜ r ≡ allOf (pairGood comf) (entriesOf (record { fixed = size; unit = 0 }) (now (part .entry))) ⌝ }
+{
+    let mut at: usize = 0;
+    while size <= part.len() - at {
+        let end = at + size;
+        if !pair_good(&part[at..end], comf) {
+            return false;
+        }
+        at = end;
+    }
+    true
+}
+
+// Whether those of the list of kind k, pairs or soundings of `size` bytes, all are.
+fn pairs_good(s: &[u8], at: usize, h: Head, k: usize, size: usize, comf: u32) -> bool
+    requires { ⌜ Listed (now s) at h k × (rowOf k .fixed ≡ size) × (rowOf k .text ≡ false) × (8 ≤ size) × (comf ≤ 10000000) ⌝ }
     ensures { λ r. ⌜ r ≡ allOf (pairGood comf) (entriesAt (now (s .entry)) at k) ⌝ }
 {
     let mut c = begin();
     loop {
-        let Next::Entry(from, to, after) = next(s, at, h, k, c) else {
+        let Part::Bytes(from, to, after) = part(s, at, h, k, c) else {
             return true;
         };
-        if !pair_good(&s[from..to], comf) {
+        if !part_pairs(&s[from..to], size, comf) {
             return false;
         }
         c = after;
@@ -66,8 +84,8 @@ pub fn coordinates_good(s: &[u8], at: usize, h: Head, comf: u32) -> bool
     requires { ⌜ LaidOut (now s) at × HeadOf (now s) at h × (comf ≤ 10000000) ⌝ }
     ensures { λ r. ⌜ r ≡ coordinatesGood comf (itemAt (now (s .entry)) at) ⌝ }
 {
-    if !pairs_good(s, at, h, SG2D, comf) {
+    if !pairs_good(s, at, h, SG2D, 8, comf) {
         return false;
     }
-    pairs_good(s, at, h, SG3D, comf)
+    pairs_good(s, at, h, SG3D, 12, comf)
 }

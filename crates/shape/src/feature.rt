@@ -1,5 +1,6 @@
 // The shape of a feature: a point, a line, an area, or a collection without geometry.
 ghost use mathlib.Core.Path.{_≡_};
+ghost use Rattle.entries.specs.Entries.{entriesOf};
 ghost use Rattle.entries.specs.Rules.{allOf};
 ghost use Rattle.table.specs.Table.{FSPT};
 ghost use Rattle.iso8211.specs.Field.{HeadOf};
@@ -10,28 +11,43 @@ ghost use Rattle.shape.specs.Shape.{spatialGood, featureGood};
 use crate::spatial::spatial_count;
 use crate::spatial::spatial_good;
 use iso8211::field::Head;
-use items::Next;
+use items::Part;
 use items::count::count;
 use items::cursor::begin;
 use items::identity::objl_of;
 use items::identity::prim_of;
-use items::step::next;
+use items::step::part;
 use values::class::is_collection;
 
 // The list's number in the table.
 const FSPT: usize = 17;
 
-// Whether each FSPT of the record is one that the primitive wants.
+// Whether each FSPT of a part of the list is one that the primitive wants.
+fn part_spatials(part: &[u8], prim: u32) -> bool
+    ensures { λ r. ⌜ r ≡ allOf (spatialGood prim) (entriesOf (record { fixed = 8; unit = 0 }) (now (part .entry))) ⌝ }
+{
+    let mut at: usize = 0;
+    while 8 <= part.len() - at {
+        let end = at + 8;
+        if !spatial_good(&part[at..end], prim) {
+            return false;
+        }
+        at = end;
+    }
+    true
+}
+
+// Whether each FSPT of the record is one.
 fn spatials_good(s: &[u8], at: usize, h: Head, prim: u32) -> bool
     requires { ⌜ Listed (now s) at h FSPT ⌝ }
     ensures { λ r. ⌜ r ≡ allOf (spatialGood prim) (entriesAt (now (s .entry)) at FSPT) ⌝ }
 {
     let mut c = begin();
     loop {
-        let Next::Entry(from, to, after) = next(s, at, h, FSPT, c) else {
+        let Part::Bytes(from, to, after) = part(s, at, h, FSPT, c) else {
             return true;
         };
-        if !spatial_good(&s[from..to], prim) {
+        if !part_spatials(&s[from..to], prim) {
             return false;
         }
         c = after;

@@ -2,6 +2,7 @@
 use Prim.Native.Nat.{ℕ, zero, suc, _+_, _-_, _*_, _≤_, _<_}
 use mathlib.Core.Bool.{Bool, true, false, cond}
 use mathlib.Core.List.{List, [], _∷_}
+use mathlib.Core.Logic.{⊎-elim}
 use mathlib.Core.Path.{_≡_, refl, sym, ap, _∙_}
 use native.Mathlib.Nat.{add-zero, zero-add, sub-zero}
 use native.Mathlib.Numerals.{add-one}
@@ -10,14 +11,16 @@ use lib.ListN.{length, getD}
 use lib.Dec.{eqb}
 use borrow.Author.Tests.{eq-eqb, ne-eqb}
 use Rattle.octets.specs.Number.{byteAt}
+use Rattle.octets.proofs.Cases.{eq-or-ne}
+use Rattle.table.specs.Table.{FFPT, FSPT}
 use Rattle.words.specs.Words.{wordAt, wordsIn}
 use Rattle.words.specs.Order.{Sorted, sorted}
 use Rattle.words.proofs.WordsLaws.{words-at, words-length}
 use Rattle.words.proofs.OrderLaws.{sorted-in-order}
 use Rattle.chart.specs.Read.{refusal, fine}
 use Rattle.chart.specs.declared.read.Refusal.{Refusal}
-use Rattle.items.specs.Lists.{LaidOut}
-use Rattle.items.specs.Identity.{placeOf, Identified}
+use Rattle.items.specs.Lists.{entriesAt, LaidOut}
+use Rattle.items.specs.Identity.{rcnmAt, primAt, placeOf, Identified, Featured}
 use Rattle.items.specs.Item.{Item, itemAt}
 use Rattle.names.specs.Names.{Readable}
 use Rattle.names.specs.Comf.{comfAt}
@@ -26,27 +29,61 @@ use Rattle.names.proofs.HeldLaws.{all-stand}
 use Rattle.names.proofs.ReadableLaws.{readable-few}
 use Rattle.names.specs.declared.lookup.Found.{Found}
 use Rattle.shape.specs.Shape.{shapeCode}
-use Rattle.pointer.specs.Pointer.{firstCode, pointerCode}
-use Rattle.ring.specs.Ring.{ringCode}
+use Rattle.pointer.specs.Pointer.{firstCode, lnamsCode, pointerCode}
+use Rattle.ring.specs.Ring.{ringCode, areaCode}
 use Rattle.topology.specs.Topology.{itemCode, codeAmong, faultFrom, topologyOf, topologyFault}
 use Rattle.topology.specs.Notes.{notedCode, Roomy, Prepared}
 use Rattle.topology.proofs.BytesLaws.{Bytes}
 use Rattle.topology.proofs.ReachLaws.{code-noted}
 
--- ---- one item: a, b, c are its codes of Shape, Pointer and Ring
-module _ (comf : ℕ) (place : ℕ → Found) (object : ℕ → Bool) (node : ℕ → ℕ → ℕ) (i : Item) (a : ℕ) (shape : a ≡ shapeCode comf i) where
-  pub item-shape : (a ≡ 0 → ⊥) → a ≡ itemCode comf place object node i
+-- ---- one item: a is its code of Shape
+pub feature-told : (s : List ℕ) (at r : ℕ) → Identified s at → r ≡ rcnmAt s at → r ≡ 100 → Featured s at
+feature-told s at r known is e = known .feature (sym is ∙ e)
+
+code-alone : (n : ℕ) → n ≡ firstCode n 0
+unfolding firstCode
+code-alone n = ⊎-elim (λ (h : n ≡ 0). rw h) (λ (ne : n ≡ 0 → ⊥). rw (ne-eqb n 0 ne)) (eq-or-ne n 0)
+
+code-next : (n : ℕ) → firstCode 0 n ≡ n
+unfolding firstCode
+code-next n = refl
+
+codes-join : (a b c : ℕ) → firstCode (firstCode a b) c ≡ firstCode a (firstCode b c)
+unfolding firstCode
+codes-join a b c = ⊎-elim (λ (h : a ≡ 0). rw h) (λ (ne : a ≡ 0 → ⊥). rw (ne-eqb a 0 ne, ne-eqb a 0 ne)) (eq-or-ne a 0)
+
+module _ (comf : ℕ) (place : ℕ → Found) (object : ℕ → Bool) (node : ℕ → ℕ → ℕ) (s : List ℕ) (at a : ℕ) (shape : a ≡ shapeCode comf (itemAt s at)) where
+  pub item-shape : (a ≡ 0 → ⊥) → a ≡ itemCode comf place object node (itemAt s at)
   unfolding itemCode firstCode
   item-shape ne = rw (← shape, ne-eqb a 0 ne)
 
-  module _ (good : a ≡ 0) (b : ℕ) (pointer : b ≡ pointerCode place object i) where
-    pub item-pointer : (b ≡ 0 → ⊥) → b ≡ itemCode comf place object node i
-    unfolding itemCode firstCode
-    item-pointer ne = rw (← shape, good, ← pointer, ne-eqb b 0 ne)
+  module _ (good : a ≡ 0) (rcnm : ℕ) (class : rcnm ≡ rcnmAt s at) where
+    item-rest : itemCode comf place object node (itemAt s at) ≡ firstCode (pointerCode place object (itemAt s at)) (ringCode node (itemAt s at))
+    unfolding itemCode
+    item-rest = rw (← shape, good) (code-next _)
 
-    pub item-ring : (c : ℕ) → b ≡ 0 → c ≡ ringCode node i → c ≡ itemCode comf place object node i
-    unfolding itemCode firstCode
-    item-ring c found ring = rw (← shape, good, ← pointer, found, ← ring)
+    -- n is its code of Pointer
+    pub item-vector : (n : ℕ) → (rcnm ≡ 100 → ⊥) → n ≡ pointerCode place object (itemAt s at) → n ≡ itemCode comf place object node (itemAt s at)
+    unfolding ringCode
+    item-vector n ne is = code-alone n ∙ sym (item-rest ∙ rw (← is, ← class, ne-eqb rcnm 100 ne))
+
+    module _ (feature : rcnm ≡ 100) (prim : ℕ) (primitive : prim ≡ primAt s at) where
+      pub item-other : (n : ℕ) → (prim ≡ 3 → ⊥) → n ≡ pointerCode place object (itemAt s at) → n ≡ itemCode comf place object node (itemAt s at)
+      unfolding ringCode
+      item-other n ne is = code-alone n ∙ sym (item-rest ∙ rw (← is, ← class, feature, ← primitive, ne-eqb prim 3 ne))
+
+      -- an area: b is the code of its LNAMs
+      module _ (area : prim ≡ 3) (b : ℕ) (related : b ≡ lnamsCode object (entriesAt s at FFPT)) where
+        item-area : itemCode comf place object node (itemAt s at) ≡ firstCode b (areaCode place node (entriesAt s at FSPT))
+        unfolding pointerCode ringCode areaCode
+        item-area = item-rest ∙ rw (← class, feature, ← primitive, area, ← related) (codes-join b _ _)
+
+        pub item-related : (b ≡ 0 → ⊥) → b ≡ itemCode comf place object node (itemAt s at)
+        unfolding firstCode
+        item-related ne = sym (item-area ∙ rw (ne-eqb b 0 ne))
+
+        pub item-rings : (n : ℕ) → b ≡ 0 → n ≡ areaCode place node (entriesAt s at FSPT) → n ≡ itemCode comf place object node (itemAt s at)
+        item-rings n z is = sym (item-area ∙ rw (z, ← is) (code-next n))
 
 -- ---- turns of the walk over all items
 pub fault-start : (code : Item → ℕ) (s work : List ℕ) (m : ℕ) → faultFrom code 3 (itemsOf s (wordsIn work 0 m)) ≡ faultFrom code (3 + 0) (itemsOf s (wordsIn work 0 (m - 0)))

@@ -17,16 +17,20 @@ ghost use Rattle.topology.specs.Notes.{notedCode};
 use chart::Refusal;
 use chart::read::refuse;
 use iso8211::field::head_of;
+use items::identity::prim_of;
+use items::identity::rcnm_of;
 use names::comf::comf_of;
 use note::prepare;
+use pointer::lnams_code;
 use pointer::pointer_code;
-use ring::ring_code;
+use ring::area_code;
 use shape::shape_code;
 use words::get;
 
 pub mod note;
 
-// The code of the item at `at`, by the words and notes of m items, of which v are vectors.
+// The code of the item at `at`, by the words and notes of m items, of which v are vectors. Of an area
+// Pointer and Ring are judged together, of anything else there is no Ring.
 fn item_code(s: &[u8], at: usize, comf: u32, work: &[u8], m: usize, v: usize) -> u32
     requires { ⌜ LaidOut (now s) at × Identified (now s) at × Noted (now work) m v × (comf ≤ 10000000) ⌝ }
     ensures { λ r. ⌜ r ≡ notedCode comf (now (work .entry)) m v (itemAt (now (s .entry)) at) ⌝ }
@@ -36,11 +40,17 @@ fn item_code(s: &[u8], at: usize, comf: u32, work: &[u8], m: usize, v: usize) ->
     if shape != 0 {
         return shape;
     }
-    let pointer = pointer_code(s, at, h, work, m, v);
-    if pointer != 0 {
-        return pointer;
+    if rcnm_of(s, at, h) != 100 {
+        return pointer_code(s, at, h, work, m, v);
     }
-    ring_code(s, at, h, work, m, v)
+    if prim_of(s, at, h) != 3 {
+        return pointer_code(s, at, h, work, m, v);
+    }
+    let related = lnams_code(s, at, h, work, m, v);
+    if related != 0 {
+        return related;
+    }
+    area_code(s, at, h, work, m, v)
 }
 
 // The first of m items that has a code.

@@ -1,11 +1,23 @@
--- The ends are the halves of the note.
-use Rattle.ring.proofs.StepLaws.{step-back, step-forth}
+-- The ends are the halves of the note at the index of the name.
+use Rattle.ring.proofs.StepLaws.{step-missing, step-back, step-forth}
 use borrow.Author.Needs.{needs}
 use Rattle.ring.proofs.step.step_of.Statement.{statement}
 use Rattle.ring.proofs.step.step_of.Tie as tie
 
 name-in-requires : tie.Need-name-in-requires
 name-in-requires c κs = search needs
+
+index-of-requires : tie.Need-index-of-requires
+index-of-requires c κs = search needs
+
+enum-known-i : tie.Need-enum-known-i
+enum-known-i c = search needs
+
+enum-told : tie.Need-enum-told
+enum-told c = search needs
+
+returns : tie.Need-returns
+returns c = search (needs, step-missing)
 
 ends-at-requires : tie.Need-ends-at-requires
 ends-at-requires c κs = search needs
@@ -25,22 +37,26 @@ wide-requires c κs = search needs
 shared-slice-read-if1 : tie.Need-shared-slice-read-if1
 shared-slice-read-if1 c = search needs
 
-returns : tie.Need-returns
-returns c = search (needs, step-back)
-
 returns-2 : tie.Need-returns-2
-returns-2 c = search (needs, step-forth)
+returns-2 c = search (needs, step-back)
+
+returns-3 : tie.Need-returns-3
+returns-3 c = search (needs, step-forth)
 
 pub step-of-spec : {M : Type 1} → statement M
 step-of-spec =
     tie.close
     (tie.spec
     name-in-requires
+    index-of-requires
+    enum-known-i
+    enum-told
+    returns
     ends-at-requires
     cast-begin
     cast-end
     shared-slice-read-wide
     wide-requires
     shared-slice-read-if1
-    returns
-    returns-2)
+    returns-2
+    returns-3)

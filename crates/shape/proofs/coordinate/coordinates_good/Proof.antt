@@ -1,21 +1,20 @@
 -- Pairs, then soundings.
 use Rattle.octets.proofs.Tests.{chain}
 use Rattle.shape.specs.Shape.{coordinatesGood}
-use Rattle.items.proofs.KindLaws.{sg2d-list, sg3d-list}
-use Rattle.shape.proofs.ShapeLaws.{sg2d-wide, sg3d-wide}
+use Rattle.items.proofs.KindLaws.{sg2d-list, sg2d-fixed, sg2d-bare, sg3d-list, sg3d-fixed, sg3d-bare}
 use borrow.Author.Needs.{needs}
 use Rattle.shape.proofs.coordinate.coordinates_good.Statement.{statement}
 use Rattle.shape.proofs.coordinate.coordinates_good.Tie as tie
 
 pairs-good-requires : tie.Need-pairs-good-requires
-pairs-good-requires c κs = search (needs, sg2d-list, sg2d-wide)
+pairs-good-requires c κs = search (needs, sg2d-list, sg2d-fixed, sg2d-bare)
 
 returns : tie.Need-returns
 unfolding coordinatesGood
 returns c = search chain
 
 pairs-good-requires-2 : tie.Need-pairs-good-requires-2
-pairs-good-requires-2 c κs = search (needs, sg3d-list, sg3d-wide)
+pairs-good-requires-2 c κs = search (needs, sg3d-list, sg3d-fixed, sg3d-bare)
 
 returns-2 : tie.Need-returns-2
 unfolding coordinatesGood

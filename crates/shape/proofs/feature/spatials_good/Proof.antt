@@ -4,9 +4,10 @@ use lib.ListN.{length}
 use Rattle.entries.specs.Rules.{allOf}
 use Rattle.items.specs.Lists.{entriesAt}
 use Rattle.items.specs.Cursors.{left, CursorIn}
-use Rattle.items.proofs.CursorLaws.{begin-in, all-begin, all-done, all-no, all-on, next-up, next-within, next-bytes, next-less, next-in}
+use Rattle.items.proofs.CursorLaws.{begin-in, all-begin}
+use Rattle.items.proofs.PartLaws.{part-up, part-within, part-in, part-less, bare-told, parts-done, parts-no, parts-on}
 use Rattle.shape.specs.Shape.{spatialGood}
-use Rattle.items.proofs.KindLaws.{fspt-fixed}
+use Rattle.items.proofs.KindLaws.{fspt-fixed, fspt-bare}
 use Rattle.table.specs.Table.{FSPT}
 use borrow.Author.Needs.{needs}
 use Rattle.shape.proofs.feature.spatials_good.Statement.{statement}
@@ -24,8 +25,8 @@ begin-requires c κs = search needs
 loop-holds : tie.Need-loop-holds Inv-loop μ-loop
 loop-holds c = (search (needs, begin-in), search (needs, all-begin))
 
-next-requires : tie.Need-next-requires Inv-loop μ-loop
-next-requires c κs = search needs
+part-requires : tie.Need-part-requires Inv-loop μ-loop
+part-requires c κs = search needs
 
 enum-known-from : tie.Need-enum-known-from Inv-loop μ-loop
 enum-known-from c = search needs
@@ -34,28 +35,28 @@ enum-told : tie.Need-enum-told Inv-loop μ-loop
 enum-told c = search needs
 
 returns : tie.Need-returns Inv-loop μ-loop
-returns c = search (needs, all-done)
+returns c = search (needs, parts-done)
 
-sub-spatial-good : tie.Need-sub-spatial-good Inv-loop μ-loop
-sub-spatial-good c = search (needs, next-up)
+sub-part-spatials : tie.Need-sub-part-spatials Inv-loop μ-loop
+sub-part-spatials c = search (needs, part-up)
 
-part-spatial-good-start : tie.Need-part-spatial-good-start Inv-loop μ-loop
-part-spatial-good-start c = search (needs, next-up)
+part-part-spatials-start : tie.Need-part-part-spatials-start Inv-loop μ-loop
+part-part-spatials-start c = search (needs, part-up)
 
-part-spatial-good-end : tie.Need-part-spatial-good-end Inv-loop μ-loop
-part-spatial-good-end c = search (needs, next-within)
+part-part-spatials-end : tie.Need-part-part-spatials-end Inv-loop μ-loop
+part-part-spatials-end c = search (needs, part-within)
 
-spatial-good-requires : tie.Need-spatial-good-requires Inv-loop μ-loop
-spatial-good-requires c κs = search (needs, next-bytes, fspt-fixed)
+part-spatials-requires : tie.Need-part-spatials-requires Inv-loop μ-loop
+part-spatials-requires c κs = search needs
 
 returns-2 : tie.Need-returns-2 Inv-loop μ-loop
-returns-2 c = search (needs, all-no)
+returns-2 c = search (needs, parts-no, bare-told, fspt-fixed, fspt-bare)
 
 loop-less : tie.Need-loop-less Inv-loop μ-loop
-loop-less c = search (needs, next-less)
+loop-less c = search (needs, part-less)
 
 loop-again : tie.Need-loop-again Inv-loop μ-loop
-loop-again c = (search (needs, next-in), search (needs, all-on))
+loop-again c = (search (needs, part-in), search (needs, parts-on, bare-told, fspt-fixed, fspt-bare))
 
 pub spatials-good-spec : {M : Type 1} → statement M
 spatials-good-spec =
@@ -65,14 +66,14 @@ spatials-good-spec =
     μ-loop
     begin-requires
     loop-holds
-    next-requires
+    part-requires
     enum-known-from
     enum-told
     returns
-    sub-spatial-good
-    part-spatial-good-start
-    part-spatial-good-end
-    spatial-good-requires
+    sub-part-spatials
+    part-part-spatials-start
+    part-part-spatials-end
+    part-spatials-requires
     returns-2
     loop-less
     loop-again)
