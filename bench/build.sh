@@ -18,6 +18,7 @@ make_harbour alone
 sanitize_frame alone
 sanitize_read alone
 sanitize_judge alone
+compare_listing alone
 compare_frame probe
 compare_read probe
 compare_judge loader
@@ -29,10 +30,10 @@ speed_judge loader
 
 # What every program may use: the reader, the generator, and what the programs share.
 reader='reader_frame reader_formats reader_table reader_describe reader_layout reader_values reader_names reader_read
-    reader_topology'
+    reader_topology reader_listing'
 generator='generate_frame generate_broken generate_large generate_formats generate_chart generate_describe generate_scene
     generate_update faults_describe faults_layout faults_values faults_names generate_read generate_damage generate_hostile
-    generate_judge generate_heavy faults_topology'
+    generate_judge generate_heavy faults_topology generate_listing'
 shared='buffer areas tally speed cases_frame cases_read cases_judge'
 
 # shellcheck source=compiler.sh

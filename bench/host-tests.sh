@@ -1,8 +1,8 @@
 #!/bin/bash
 # The host tests: C programs, those that look at proved code linked with the archive of the crate
-# `probe` or `loader`; then the example host. Builds them, runs each, and adds up what they count; the last
-# line is 'N passed, M failed', and the status is 0 only where nothing failed. Wants `rt`, and the
-# compilers that .ci/run installs.
+# `probe` or `loader`, or running the program `listing`; then the example host. Builds them, runs each,
+# and adds up what they count; the last line is 'N passed, M failed', and the status is 0 only where
+# nothing failed. Wants `rt`, and the compilers that .ci/run installs.
 #
 # bench/build.sh ARCHIVE compiles the programs, bench/run.sh runs one, and bench/tests.txt names those
 # that are tests, one a line ('#' starts a comment). A test that doesn't end with the line 'N passed, M
@@ -25,6 +25,10 @@ for crate in probe loader; do
         fault "rt staticlib $crate made no $archives/lib$crate.a"
     fi
 done
+# the program that compare_listing runs; after rt ci it is there, and nothing is proved again
+if ! rt check listing || [ ! -x target/bin/listing ]; then
+    fault 'rt check listing made no target/bin/listing'
+fi
 bench/build.sh "$archives/libprobe.a" || fault 'bench/build.sh could not build every program'
 
 # ---- run

@@ -94,4 +94,10 @@ struct answer reader_read_both(const uint8_t *cell, size_t cell_length, const ui
 /* Judge: codes 1 to 8 for a cell, then 17 to 19, whose record is the place in held order. */
 struct answer reader_judge(const uint8_t *cell, size_t length, size_t work_length);
 
+struct buffer;
+
+/* The listing ("Bench sheet"): appends the text of a cell's vectors and features, or of its refusal, and returns the verdict. It has work enough,
+   but no cell of over 65,536 bytes is listed. */
+struct answer reader_listing(const uint8_t *cell, size_t length, struct buffer *listing);
+
 #endif
