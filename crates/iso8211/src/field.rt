@@ -74,7 +74,8 @@ pub fn field_at(s: &[u8], at: usize, h: Head, k: usize) -> Field
     }
 }
 
-// Its tag alone, for a walk that takes the rest of a field only where the tag is the one looked for.
+// Its tag alone, for a walk that takes the rest of a field only where the tag is the one it looks
+// for.
 pub fn tag_of(s: &[u8], at: usize, h: Head, k: usize) -> u32
     requires { ⌜ HeadOf (now s) at h × (k < countAt (now s) at) ⌝ }
     ensures { λ r. ⌜ r ≡ fieldAt (now (s .entry)) at k .tag ⌝ }

@@ -13,8 +13,8 @@ use iso8211::field::field_at;
 use iso8211::field::tag_of;
 use table::kind_of;
 
-// How many entries field j brings to the list of kind k. Without a text all are of one length, so that
-// none need be looked at.
+// How many entries field j brings to the list of kind k. Those without a text are all of one length,
+// so that none need be looked at.
 fn part_count(s: &[u8], at: usize, h: Head, k: usize, j: usize) -> usize
     requires { ⌜ Listed (now s) at h k × (j < countAt (now s) at) ⌝ }
     ensures { λ r. ⌜ r ≡ length (entriesOf (shapeOf k) (partAt (now (s .entry)) at k j)) ⌝ }

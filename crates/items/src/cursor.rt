@@ -16,8 +16,8 @@ pub enum Next {
     Done,
 }
 
-// The next entries, all that stand together, from where to where they stand in the file, and the cursor
-// behind them; or the end of the list.
+// The next entries, all that stand together, from where to where they stand in the file, and the
+// cursor behind them; or the end of the list.
 pub enum Part {
     Bytes(usize, usize, Cursor),
     Done,

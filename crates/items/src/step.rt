@@ -67,8 +67,8 @@ pub fn next(s: &[u8], at: usize, h: Head, k: usize, c: Cursor) -> Next
     )
 }
 
-// The next entries of the list of kind k that stand together. A walk whose entries have one length goes
-// through the part by itself, and looks for a field only once for each.
+// The next entries of the list of kind k that stand together. A walk over entries of one length goes
+// through them by itself, and looks for a field only once a part.
 pub fn part(s: &[u8], at: usize, h: Head, k: usize, c: Cursor) -> Part
     requires { ⌜ Listed (now s) at h k × CursorIn (now s) at k c ⌝ }
     ensures { λ r. ⌜ PartStepped (now (s .entry)) at k c r ⌝ }

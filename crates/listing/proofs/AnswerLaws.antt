@@ -21,6 +21,7 @@ use Rattle.reader.specs.declared.answer.Answer.{Answer}
 use Rattle.reader.specs.declared.front.Front.the-variants.{Count}
 use Rattle.reader.proofs.ReaderLaws.{cell-good}
 use Rattle.loader.specs.Judge.{cellVerdict, judgeChecked, judgeFront, judgeOf}
+use Rattle.loader.proofs.ReadLaws.{judge-small}
 use Rattle.listing.specs.Text.{refusedText}
 use Rattle.listing.specs.Listing.{linesOf, framedLines, listingWith, listingOf, Judged}
 use Rattle.listing.proofs.RecordsLaws.{records-few}
@@ -63,6 +64,10 @@ judged s w a short is = record {
       let checked = ap (λ (b : Answer). b .code) (sym (is ∙ judge-counted s w n short framed)) ∙ z in
       cell-good s n framed (omega arith) (verdict-zero s n (checked-zero w n (cellVerdict s n) checked));
 }
+
+-- the record named fits 32 bits
+pub judged-index : (s : List ℕ) (w : ℕ) (a : Answer) → a ≡ judgeOf s w → a .index < 4294967296
+judged-index s w a is = rw is (judge-small s w .index-small)
 
 -- a cell that is not framed got 2, so no cell that got 0 prints nothing
 pub judge-broken : (s : List ℕ) (w k : ℕ) → length s ≤ 65536 → frameOf s ≡ Broken k → judgeOf s w .code ≡ 2

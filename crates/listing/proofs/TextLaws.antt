@@ -93,12 +93,12 @@ tabbed-none : length (tabbed []) ≡ 1
 unfolding tabbed
 tabbed-none = refl
 
-refused-long : (code file index : ℕ) → code < 10 ^ 20 → file < 10 ^ 20 → index < 10 ^ 20 → length (tabbed (code ∷ file ∷ index ∷ [])) ≤ 64
+refused-long : (code file index : ℕ) → code < 10 ^ 10 → file < 10 ^ 10 → index < 10 ^ 10 → length (tabbed (code ∷ file ∷ index ∷ [])) ≤ 34
 refused-long code file index f g h =
     rw (tabbed-length code (file ∷ index ∷ []), tabbed-length file (index ∷ []), tabbed-length index [], tabbed-none)
-    (omega (arith, number-few 19 code f, number-few 19 file g, number-few 19 index h))
+    (omega (arith, number-few 9 code f, number-few 9 file g, number-few 9 index h))
 
-pub refused-room : {a b : List ℕ} {m : ℕ} (code file index : ℕ) → code < 10 ^ 20 → file < 10 ^ 20 → index < 10 ^ 20 → 71 ≤ length a
+pub refused-room : {a b : List ℕ} {m : ℕ} (code file index : ℕ) → code < 10 ^ 10 → file < 10 ^ 10 → index < 10 ^ 10 → 71 ≤ length a
     → Wrote a 0 (bytes "refused") b m → m + length (tabbed (code ∷ file ∷ index ∷ [])) ≤ length b
 unfolding bytes
 refused-room {a} {b} {m} code file index f g h fit w =

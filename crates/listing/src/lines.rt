@@ -17,7 +17,7 @@ use names::walk::first_item;
 use words::get;
 
 // The line of the item of word w.
-fn put_item(s: &[u8], w: u64, place: usize, out: &mut [u8], at: usize) -> usize
+fn put_item(s: &[u8], w: u64, place: u32, out: &mut [u8], at: usize) -> usize
     requires { ⌜ Stands (now s) w × (length (now s) ≤ 65536) × (place < 10000000000) × (at + 80 ≤ length (now out)) ⌝ }
     ensures { λ r. ⌜ Wrote (now (out .entry)) at (lineOf place (rowAt (now (s .entry)) (placeOf w))) (now (out .exit)) r × (r ≤ at + 80) ⌝ }
 {
@@ -35,7 +35,7 @@ fn put_lines(s: &[u8], m: usize, work: &[u8], out: &mut [u8], at: usize) -> usiz
     let mut k: usize = 0;
     while k < m {
         let w = get(work, k);
-        next = put_item(s, w, k + 3, out, next);
+        next = put_item(s, w, (k + 3) as u32, out, next);
         k += 1;
     }
     next

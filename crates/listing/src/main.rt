@@ -3,7 +3,7 @@
 // pointers and coordinates, parted by tabs. A cell that is refused answers only `refused` and the
 // code, file and record. It takes the verdict from `loader`, the held order from `names` and the
 // lists from `items`. The text is proved, byte by byte, and written out at once.
-ghost use Prim.Native.Nat.{_≤_};
+ghost use Prim.Native.Nat.{_≤_, _<_};
 ghost use mathlib.Core.Path.{_≡_};
 ghost use lib.ListN.{length};
 ghost use Rattle.octets.specs.Area.{Wrote};
@@ -23,12 +23,12 @@ mod text;
 
 // The text for a cell whose verdict is a.
 fn put_answer(file: &[u8], a: Answer, work: &mut [u8], out: &mut [u8]) -> usize
-    requires { ⌜ Judged (now file) a × (length (now file) ≤ 65536) × (16384 ≤ length (now work)) × (163904 ≤ length (now out)) ⌝ }
+    requires { ⌜ Judged (now file) a × (a .index < 4294967296) × (length (now file) ≤ 65536) × (16384 ≤ length (now work)) × (163904 ≤ length (now out)) ⌝ }
     ensures { λ r. ⌜ Wrote (now (out .entry)) 0 (listingWith a (now (file .entry))) (now (out .exit)) r ⌝ }
 {
     let code = a.code;
     if code != 0 {
-        return put_refused(out, code as usize, a.file as usize, a.index);
+        return put_refused(out, code, a.file, a.index as u32);
     }
     let framed = frame(file);
     let Framed::Records(n) = framed else {

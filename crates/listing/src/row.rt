@@ -75,18 +75,18 @@ fn coordinates(s: &[u8], at: usize, h: Head, rcnm: u32) -> usize
 }
 
 // RCNM, RCID, RVER and the three sizes of the record at `at`.
-pub fn row_at(s: &[u8], at: usize) -> [usize; 6]
+pub fn row_at(s: &[u8], at: usize) -> [u32; 6]
     requires { ⌜ LaidOut (now s) at × Identified (now s) at × (length (now s) ≤ 65536) ⌝ }
     ensures { λ r. ⌜ (r ≡ rowAt (now (s .entry)) at) × Short r ⌝ }
 {
     let h = head_of(s, at);
     let rcnm = rcnm_of(s, at, h);
     [
-        rcnm as usize,
-        rcid_of(s, at, h) as usize,
-        version_of(s, at, h) as usize,
-        attributes(s, at, h, rcnm),
-        pointers(s, at, h, rcnm),
-        coordinates(s, at, h, rcnm),
+        rcnm,
+        rcid_of(s, at, h),
+        version_of(s, at, h),
+        attributes(s, at, h, rcnm) as u32,
+        pointers(s, at, h, rcnm) as u32,
+        coordinates(s, at, h, rcnm) as u32,
     ]
 }

@@ -4,52 +4,24 @@ ghost use Prim.Native.Nat.{_+_, _≤_};
 ghost use mathlib.Core.Path.{_≡_};
 ghost use mathlib.Core.List.{_∷_};
 ghost use lib.ListN.{length};
-ghost use Rattle.octets.specs.Digits.{digitsOf, fewest};
 ghost use Rattle.octets.specs.Area.{Wrote};
 ghost use Rattle.listing.specs.Text.{numberText, tabbed, lineOf, refusedText, headerText};
 use octets::area::copy;
+use octets::digits::fewest_digits;
+use octets::digits::put_digits;
 use octets::number::put1;
 
-// How many digits v takes at the least: 1 for 0.
-fn width_of(v: usize) -> usize
-    ensures { λ r. ⌜ (r ≡ fewest v) × (r ≤ 20) ⌝ }
-{
-    let mut left = v;
-    let mut n: usize = 1;
-    while 9 < left {
-        left = left / 10;
-        n += 1;
-    }
-    n
-}
-
-// The number v in w digits, with leading zeros; written from the back, so that no power of ten is
-// computed.
-fn put_digits(area: &mut [u8], at: usize, w: usize, v: usize) -> usize
-    requires { ⌜ at + w ≤ length (now area) ⌝ }
-    ensures { λ r. ⌜ Wrote (now (area .entry)) at (digitsOf w v) (now (area .exit)) r ⌝ }
-{
-    let mut left = v;
-    let mut c: usize = 0;
-    while c < w {
-        c += 1;
-        put1(area, at + (w - c), (48 + left % 10) as u8);
-        left = left / 10;
-    }
-    at + w
-}
-
 // A number in as few digits as it takes.
-fn put_number(area: &mut [u8], at: usize, v: usize) -> usize
+fn put_number(area: &mut [u8], at: usize, v: u32) -> usize
     requires { ⌜ at + length (numberText v) ≤ length (now area) ⌝ }
     ensures { λ r. ⌜ Wrote (now (area .entry)) at (numberText v) (now (area .exit)) r ⌝ }
 {
-    let w = width_of(v);
+    let w = fewest_digits(v);
     put_digits(area, at, w, v)
 }
 
 // A tab, and a number.
-fn put_next(area: &mut [u8], at: usize, v: usize) -> usize
+fn put_next(area: &mut [u8], at: usize, v: u32) -> usize
     requires { ⌜ at + length (9 ∷ numberText v) ≤ length (now area) ⌝ }
     ensures { λ r. ⌜ Wrote (now (area .entry)) at (9 ∷ numberText v) (now (area .exit)) r ⌝ }
 {
@@ -58,7 +30,7 @@ fn put_next(area: &mut [u8], at: usize, v: usize) -> usize
 }
 
 // The rest of a line: each number behind a tab, and the line feed.
-fn put_tabbed(area: &mut [u8], at: usize, numbers: &[usize]) -> usize
+fn put_tabbed(area: &mut [u8], at: usize, numbers: &[u32]) -> usize
     requires { ⌜ at + length (tabbed (now numbers)) ≤ length (now area) ⌝ }
     ensures { λ r. ⌜ Wrote (now (area .entry)) at (tabbed (now (numbers .entry))) (now (area .exit)) r ⌝ }
 {
@@ -72,7 +44,7 @@ fn put_tabbed(area: &mut [u8], at: usize, numbers: &[usize]) -> usize
 }
 
 // A line of numbers, `first` the first of them.
-pub fn put_line(area: &mut [u8], at: usize, first: usize, numbers: &[usize]) -> usize
+pub fn put_line(area: &mut [u8], at: usize, first: u32, numbers: &[u32]) -> usize
     requires { ⌜ at + length (lineOf first (now numbers)) ≤ length (now area) ⌝ }
     ensures { λ r. ⌜ Wrote (now (area .entry)) at (lineOf first (now (numbers .entry))) (now (area .exit)) r ⌝ }
 {
@@ -81,7 +53,7 @@ pub fn put_line(area: &mut [u8], at: usize, first: usize, numbers: &[usize]) -> 
 }
 
 // The one line of a refusal, at the front of the area.
-pub fn put_refused(area: &mut [u8], code: usize, file: usize, index: usize) -> usize
+pub fn put_refused(area: &mut [u8], code: u32, file: u32, index: u32) -> usize
     requires { ⌜ 71 ≤ length (now area) ⌝ }
     ensures { λ r. ⌜ Wrote (now (area .entry)) 0 (refusedText code file index) (now (area .exit)) r ⌝ }
 {

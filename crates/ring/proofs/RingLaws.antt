@@ -23,7 +23,7 @@ use Rattle.pointer.specs.Pointer.{firstCode, namesCode}
 use Rattle.ring.specs.declared.step.Step.{Step}
 use Rattle.ring.specs.declared.step.Taken.{Taken}
 use Rattle.ring.specs.declared.step.Taken.the-variants.{Edge, Missing}
-use Rattle.ring.specs.Ring.{stepOf, usageGood, along, ringsFrom, ringsGood, takenWith, takenOf, behind, namedAnd, areaGood, areaCode}
+use Rattle.ring.specs.Ring.{stepOf, usageGood, along, ringsFrom, ringsGood, takenWith, takenOf, behind, namedAnd, areaClosed, areaCode}
 
 -- ---- what an edge tells of the names
 edge-told : (f : Found) (t u : Step) → takenWith f u ≡ Edge t → (foundCode f ≡ 0) × (u ≡ t)
@@ -73,8 +73,8 @@ module _ (place : ℕ → Found) (node : ℕ → ℕ → ℕ) (e : List ℕ) (es
 
 -- ---- before the first edge
 pub rings-begin : (place : ℕ → Found) (node : ℕ → ℕ → ℕ) (s : List ℕ) (at : ℕ) (c : Cursor) → c ≡ record { field = 0; from = 0; to = 0 }
-    → areaGood place node (entriesAt s at FSPT) ≡ namedAnd place (left s at FSPT c) (ringsFrom node true false 0 0 (left s at FSPT c))
-unfolding areaGood ringsGood
+    → areaClosed place node (entriesAt s at FSPT) ≡ namedAnd place (left s at FSPT c) (ringsFrom node true false 0 0 (left s at FSPT c))
+unfolding areaClosed ringsGood
 rings-begin place node s at c e = ap (λ (es : List (List ℕ)). namedAnd place es (ringsFrom node true false 0 0 es)) (sym (begin-left s at FSPT c e))
 
 -- ---- between two rings
@@ -149,9 +149,9 @@ rings-bad n rings h z = by rings (rw z at h) where
   by : (b : Bool) → b ≡ false → 19 ≡ cond (eqb n 0) (cond b 0 19) n
   by b e = rw (z, e)
 
-module _ (place : ℕ → Found) (node : ℕ → ℕ → ℕ) (es : List (List ℕ)) (good : Bool) (judged : good ≡ areaGood place node es) where
+module _ (place : ℕ → Found) (node : ℕ → ℕ → ℕ) (es : List (List ℕ)) (good : Bool) (judged : good ≡ areaClosed place node es) where
   pub area-good : good ≡ true → 0 ≡ areaCode place node es
-  unfolding areaCode areaGood namedAnd
+  unfolding areaCode areaClosed namedAnd
   area-good h = both-good (namesCode place es) (ringsGood node es) (sym judged ∙ h)
 
   pub area-missing : (n : ℕ) → n ≡ namesCode place es → (n ≡ 0 → ⊥) → n ≡ areaCode place node es
@@ -159,5 +159,5 @@ module _ (place : ℕ → Found) (node : ℕ → ℕ → ℕ) (es : List (List �
   area-missing n named ne = rw (← named, ne-eqb n 0 ne)
 
   pub area-open : (n : ℕ) → good ≡ false → n ≡ namesCode place es → n ≡ 0 → 19 ≡ areaCode place node es
-  unfolding areaCode areaGood namedAnd
+  unfolding areaCode areaClosed namedAnd
   area-open n h named z = rings-bad (namesCode place es) (ringsGood node es) (sym judged ∙ h) (sym named ∙ z)

@@ -107,8 +107,8 @@ behind node exterior start t es =
 unfoldable pub namedAnd : (ℕ → Found) → List (List ℕ) → Bool → Bool
 namedAnd place es good = eqb (namesCode place es) 0 && good
 
-unfoldable pub areaGood : (ℕ → Found) → (ℕ → ℕ → ℕ) → List (List ℕ) → Bool
-areaGood place node es = namedAnd place es (ringsGood node es)
+unfoldable pub areaClosed : (ℕ → Found) → (ℕ → ℕ → ℕ) → List (List ℕ) → Bool
+areaClosed place node es = namedAnd place es (ringsGood node es)
 
 -- the code of an area's FSPT, by Pointer and then by Ring
 unfoldable pub areaCode : (ℕ → Found) → (ℕ → ℕ → ℕ) → List (List ℕ) → ℕ

@@ -8,7 +8,7 @@ ghost use Rattle.words.specs.Words.{wordsIn};
 ghost use Rattle.items.specs.Lists.{entriesAt, Listed};
 ghost use Rattle.names.specs.Lookup.{indexOf};
 ghost use Rattle.names.specs.Held.{Noted};
-ghost use Rattle.ring.specs.Ring.{usageGood, nodeAt, areaGood, areaCode};
+ghost use Rattle.ring.specs.Ring.{usageGood, nodeAt, areaClosed, areaCode};
 use iso8211::field::Head;
 use items::Next;
 use items::cursor::begin;
@@ -43,7 +43,7 @@ fn usage_good(exterior: bool, usage: u32) -> bool
 // edge before the cursor.
 fn rings_closed(s: &[u8], at: usize, h: Head, work: &[u8], m: usize, v: usize) -> bool
     requires { ⌜ Listed (now s) at h FSPT × Noted (now work) m v ⌝ }
-    ensures { λ r. ⌜ r ≡ areaGood (indexOf (wordsIn (now (work .entry)) 0 m)) (nodeAt (wordsIn (now (work .entry)) 0 m) (wordsIn (now (work .entry)) m v)) (entriesAt (now (s .entry)) at FSPT) ⌝ }
+    ensures { λ r. ⌜ r ≡ areaClosed (indexOf (wordsIn (now (work .entry)) 0 m)) (nodeAt (wordsIn (now (work .entry)) 0 m) (wordsIn (now (work .entry)) m v)) (entriesAt (now (s .entry)) at FSPT) ⌝ }
 {
     let mut exterior = true;
     let mut c = begin();

@@ -1,5 +1,5 @@
 -- One law for each way out; a cell that got 0 can be read.
-use Rattle.listing.proofs.AnswerLaws.{judged, list-long, list-judged}
+use Rattle.listing.proofs.AnswerLaws.{judged, judged-index, list-long, list-judged}
 use borrow.Author.Needs.{needs}
 use Rattle.listing.proofs.list.Statement.{statement}
 use Rattle.listing.proofs.list.Tie as tie
@@ -8,7 +8,7 @@ returns : tie.Need-returns
 returns c = search (needs, list-long)
 
 put-answer-requires : tie.Need-put-answer-requires
-put-answer-requires c κs = search (needs, judged)
+put-answer-requires c κs = search (needs, judged, judged-index)
 
 returns-2 : tie.Need-returns-2
 returns-2 c = search (needs, list-judged)

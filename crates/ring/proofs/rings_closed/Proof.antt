@@ -11,7 +11,7 @@ use Rattle.items.proofs.CursorLaws.{begin-in, next-up, next-within, next-bytes,
 use Rattle.items.proofs.KindLaws.{fspt-fixed}
 use Rattle.names.specs.Lookup.{indexOf}
 use Rattle.names.specs.Held.{Noted}
-use Rattle.ring.specs.Ring.{ringsFrom, nodeAt, areaGood, namedAnd, behind}
+use Rattle.ring.specs.Ring.{ringsFrom, nodeAt, areaClosed, namedAnd, behind}
 use Rattle.ring.proofs.RingLaws.{rings-begin, rings-end, first-missing, ring-begin, ring-misused, ring-closed, ring-open, next-missing, ring-apart, ring-on, fewer, few-still}
 use borrow.Author.Needs.{needs}
 use Rattle.ring.proofs.rings_closed.Statement.{statement}
@@ -19,7 +19,7 @@ use Rattle.ring.proofs.rings_closed.Tie as tie
 
 abbrev Inv-loop : tie.InvT-loop
 Inv-loop s at h work m v exterior₀ c₀ from to start t₀ exterior c t = CursorIn s at FSPT c
-    × (areaGood (indexOf (wordsIn work 0 m)) (nodeAt (wordsIn work 0 m) (wordsIn work m v)) (entriesAt s at FSPT) ≡ namedAnd (indexOf (wordsIn work 0 m)) (left s at FSPT c) (behind (nodeAt (wordsIn work 0 m) (wordsIn work m v)) exterior start t (left s at FSPT c)))
+    × (areaClosed (indexOf (wordsIn work 0 m)) (nodeAt (wordsIn work 0 m) (wordsIn work m v)) (entriesAt s at FSPT) ≡ namedAnd (indexOf (wordsIn work 0 m)) (left s at FSPT c) (behind (nodeAt (wordsIn work 0 m) (wordsIn work m v)) exterior start t (left s at FSPT c)))
     × (length (left s at FSPT c) ≤ length (left s at FSPT c₀)) × Noted work m v
 
 abbrev μ-loop : tie.MeasureT-loop
@@ -27,7 +27,7 @@ abbrev μ-loop : tie.MeasureT-loop
 
 abbrev Inv-rings : tie.InvT-rings
 Inv-rings s at h work m v exterior₀ c₀ exterior c = CursorIn s at FSPT c
-    × (areaGood (indexOf (wordsIn work 0 m)) (nodeAt (wordsIn work 0 m) (wordsIn work m v)) (entriesAt s at FSPT) ≡ namedAnd (indexOf (wordsIn work 0 m)) (left s at FSPT c) (ringsFrom (nodeAt (wordsIn work 0 m) (wordsIn work m v)) exterior false 0 0 (left s at FSPT c)))
+    × (areaClosed (indexOf (wordsIn work 0 m)) (nodeAt (wordsIn work 0 m) (wordsIn work m v)) (entriesAt s at FSPT) ≡ namedAnd (indexOf (wordsIn work 0 m)) (left s at FSPT c) (ringsFrom (nodeAt (wordsIn work 0 m) (wordsIn work m v)) exterior false 0 0 (left s at FSPT c)))
 
 abbrev μ-rings : tie.MeasureT-rings
 μ-rings s at h work m v exterior₀ c₀ exterior c = length (left s at FSPT c)

@@ -38,6 +38,7 @@ put-lines-spec =
     loop-holds
     (λ c κs. search needs)
     (λ c. search needs)
+    (λ c. search needs)
     put-item-requires
     (λ c. search needs)
     (λ c. search needs)

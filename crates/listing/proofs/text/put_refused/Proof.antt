@@ -1,4 +1,4 @@
--- The word and the rest of the line, joined; a number of 64 bits has at most 20 digits.
+-- The word and the rest of the line, joined; a number of 32 bits has at most 10 digits.
 use Prim.Native.Nat.{_<_, _^_}
 use Rattle.listing.proofs.TextLaws.{refused-room, refused-wrote}
 use Rattle.table.specs.Text.{bytes}
@@ -10,9 +10,9 @@ use Rattle.listing.proofs.text.put_refused.Tie as tie
 put-tabbed-requires : tie.Need-put-tabbed-requires
 unfolding bytes
 put-tabbed-requires c κs =
-    let code-few : c .before .before .before .before .before .before .before .before .args .code < 10 ^ 20 = omega arith in
-    let file-few : c .before .before .before .before .before .before .before .before .args .file < 10 ^ 20 = omega arith in
-    let index-few : c .before .before .before .before .before .before .before .before .args .index < 10 ^ 20 = omega arith in
+    let code-few : c .before .before .before .before .before .before .before .before .args .code < 10 ^ 10 = omega arith in
+    let file-few : c .before .before .before .before .before .before .before .before .args .file < 10 ^ 10 = omega arith in
+    let index-few : c .before .before .before .before .before .before .before .before .args .index < 10 ^ 10 = omega arith in
     search (needs, refused-room)
 
 returns : tie.Need-returns

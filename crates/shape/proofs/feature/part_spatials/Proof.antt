@@ -1,5 +1,4 @@
 -- The rule of all entries of the part is the rule of those from `at` on.
-use native.Mathlib.Omega.{arith}
 use Prim.Native.Nat.{_-_, _≤_}
 use mathlib.Core.Path.{_≡_, refl}
 use lib.ListN.{length, drop}
