@@ -1,0 +1,164 @@
+-- The code that writes DSID and DSSI: what it finds, its room, and how what its calls wrote joins. Assumes nothing.
+use Prim.Native.Nat.{ℕ, _+_, _-_, _%_, _≤_, _<_}
+use mathlib.Core.Bool.{true, false}
+use mathlib.Core.List.{List, [], _∷_, _++_, append-assoc}
+use mathlib.Core.Path.{_≡_, refl, sym, ap, _∙_}
+use native.Mathlib.Omega.{arith}
+use lib.ListN.{length, take, drop, length-append, length-drop}
+use lib.Seq.{length-take-le, take-all}
+use Rattle.octets.specs.Number.{bytesOf}
+use Rattle.octets.specs.Digits.{Number, numberAt, digitsOf, fewest}
+use Rattle.octets.specs.Area.{Wrote}
+use Rattle.octets.proofs.AreaLaws.{wrote-join, wrote-as, wrote-length}
+use Rattle.octets.proofs.NumberLaws.{wrote-to}
+use Rattle.octets.proofs.DigitsLaws.{digits-length, fewest-some}
+use Rattle.values.specs.Dsid.{dsnmEnd, edtnEnd, updnEnd, dsidEnds, dsidLaid, dsidFault, edtnGood, updnDigits}
+use Rattle.values.specs.declared.dsid.Ends.{Ends}
+use Rattle.names.specs.declared.counts.Tally.{Tally}
+use Rattle.header.specs.Dsid.{shortest, editionIn, numberIn, dsidWith, dsidOf, dsidBytes}
+use Rattle.header.specs.Dssi.{featureCounts, vectorCounts, dssiBytes}
+use Rattle.header.specs.Known.{Known, EndsKnown, PartsOf}
+use Rattle.header.specs.declared.dsid.Parts.{Parts}
+use Rattle.header.proofs.DsidLaws.{dsid-written}
+
+-- ---- parts_of
+pub ends-known : {d : List ℕ} {e : Ends} → Known d → e ≡ dsidEnds d → EndsKnown d e
+unfolding dsidEnds
+ends-known {d} k is =
+    rw is (record { name = k .name; edition = k .edition; edition-few = k .edition-few; number = k .number; number-few = k .number-few; behind = k .behind })
+
+pub parts-told : {d : List ℕ} (e : Ends) (ed nu : ℕ) → e ≡ dsidEnds d → EndsKnown d e → Number d (e .dsnm + 1) (e .edtn - (e .dsnm + 1)) ed
+    → Number d (e .edtn + 1) (e .updn - (e .edtn + 1)) nu
+    → PartsOf d (record { edition = ed; number = nu; issue = e .updn + 1 })
+unfolding dsidEnds editionIn numberIn
+parts-told {d} e ed nu is k x y = record {
+  edition = x .is ∙ ap (λ (i : Ends). numberAt d (i .dsnm + 1) (i .edtn - (i .dsnm + 1))) is;
+  number = y .is ∙ ap (λ (i : Ends). numberAt d (i .edtn + 1) (i .updn - (i .edtn + 1))) is;
+  issue = ap (λ (i : Ends). i .updn + 1) is;
+  front = let a = k .edition in let b = k .number in let f = k .behind in omega arith;
+  behind = let f = k .behind in omega arith;
+}
+
+-- ---- put_number
+pub number-room : {a b : List ℕ} {at f m : ℕ} (v : ℕ) → f ≡ fewest v → Wrote a at (digitsOf f v) b m → at + (fewest v + 1) ≤ length a → m + 1 ≤ length b
+number-room {f = f} v is w room = omega (arith, w .end, digits-length f v, wrote-length w)
+
+pub number-put : {a b d : List ℕ} {at f m r : ℕ} (v : ℕ) → f ≡ fewest v → Wrote a at (digitsOf f v) b m → Wrote b m (bytesOf 1 31) d r → Wrote a at (shortest v ++ (31 ∷ [])) d r
+unfolding shortest bytesOf
+number-put v is w x = wrote-join (rw is at w) x
+
+shortest-length : (v : ℕ) → length (shortest v ++ (31 ∷ [])) ≡ fewest v + 1
+unfolding shortest
+shortest-length v = rw (length-append, digits-length (fewest v) v)
+
+-- ---- put_with
+-- each number together with its 1F
+with-parts : (front : List ℕ) (ed nu : ℕ) (back : List ℕ) → dsidWith front ed nu back ≡ front ++ ((shortest ed ++ (31 ∷ [])) ++ ((shortest nu ++ (31 ∷ [])) ++ back))
+unfolding dsidWith
+with-parts front ed nu back = rw (append-assoc (shortest ed) (31 ∷ []) ((shortest nu ++ (31 ∷ [])) ++ back), append-assoc (shortest nu) (31 ∷ []) back)
+
+pub with-length : (front : List ℕ) (ed nu : ℕ) (back : List ℕ) → length (dsidWith front ed nu back) ≡ length front + (fewest ed + 1 + (fewest nu + 1 + length back))
+with-length front ed nu back =
+    ap length (with-parts front ed nu back)
+    ∙ rw (length-append front, length-append (shortest ed ++ (31 ∷ [])), length-append (shortest nu ++ (31 ∷ [])), shortest-length ed, shortest-length nu)
+
+module _ (front : List ℕ) (ed nu : ℕ) (back a : List ℕ) (at : ℕ) (room : at + length (dsidWith front ed nu back) ≤ length a) where
+  pub front-room : at + length front ≤ length a
+  front-room = omega (arith, with-length front ed nu back)
+
+  module _ {b : List ℕ} {m : ℕ} (w : Wrote a at front b m) where
+    pub edition-room : m + (fewest ed + 1) ≤ length b
+    edition-room = omega (arith, with-length front ed nu back, w .end, wrote-length w)
+
+    module _ {d : List ℕ} {q : ℕ} (x : Wrote b m (shortest ed ++ (31 ∷ [])) d q) where
+      pub update-room : q + (fewest nu + 1) ≤ length d
+      update-room = omega (arith, with-length front ed nu back, w .end, wrote-length w, x .end, wrote-length x, shortest-length ed)
+
+      module _ {e : List ℕ} {r : ℕ} (y : Wrote d q (shortest nu ++ (31 ∷ [])) e r) where
+        pub back-room : r + length back ≤ length e
+        back-room = omega (arith, with-length front ed nu back, w .end, wrote-length w, x .end, wrote-length x, y .end, wrote-length y, shortest-length ed, shortest-length nu)
+
+        pub with-put : {f : List ℕ} {t : ℕ} → Wrote e r back f t → Wrote a at (dsidWith front ed nu back) f t
+        with-put z = wrote-as (dsidWith front ed nu back) (sym (with-parts front ed nu back)) (wrote-join w (wrote-join x (wrote-join y z)))
+
+-- ---- dsid_size, put_dsid
+module _ {d : List ℕ} {p : Parts} (is : PartsOf d p) where
+  -- what is written for its value
+  pub dsid-parts : dsidBytes (dsidOf d) ≡ dsidWith (take 20 d) (p .edition) (p .number) (drop (p .issue) d)
+  dsid-parts = dsid-written d ∙ rw (is .edition, is .number, is .issue)
+
+  pub dsid-sized : (x y : ℕ) → x ≡ fewest (p .edition) → y ≡ fewest (p .number) → 22 + x + y + (length d - p .issue) ≡ length (dsidBytes (dsidOf d))
+  dsid-sized x y ex ey =
+      let f : length (take 20 d) ≡ 20 = length-take-le 20 d (is .front) in
+      let g = length-drop (p .issue) d in
+      let i = is .behind in
+      sym (ap length dsid-parts ∙ with-length (take 20 d) (p .edition) (p .number) (drop (p .issue) d) ∙ omega arith)
+
+  -- as the code lends it
+  lent-back : take (length d - p .issue) (drop (p .issue) d) ≡ drop (p .issue) d
+  lent-back = take-all (length d - p .issue) (drop (p .issue) d) (omega (arith, length-drop (p .issue) d))
+
+  dsid-lent : dsidBytes (dsidOf d) ≡ dsidWith (take 20 d) (p .edition) (p .number) (take (length d - p .issue) (drop (p .issue) d))
+  dsid-lent = dsid-parts ∙ rw lent-back
+
+  pub dsid-put : {a b : List ℕ} {at r : ℕ} → Wrote a at (dsidWith (take 20 d) (p .edition) (p .number) (take (length d - p .issue) (drop (p .issue) d))) b r
+      → Wrote a at (dsidBytes (dsidOf d)) b r
+  dsid-put w = wrote-as (dsidBytes (dsidOf d)) (sym dsid-lent) w
+
+  pub dsid-room : (at n : ℕ) → at + length (dsidBytes (dsidOf d)) ≤ n
+      → at + length (dsidWith (take 20 d) (p .edition) (p .number) (take (length d - p .issue) (drop (p .issue) d))) ≤ n
+  dsid-room at n h = rw dsid-lent at h
+
+-- ---- put_levels, put_features, put_vectors, put_dssi
+byte-in : (v : ℕ) → v < 256 → bytesOf 1 v ≡ v ∷ []
+unfolding bytesOf
+byte-in v h = let e : v % 256 ≡ v = omega arith in rw e
+
+pub levels-put : {a b d e : List ℕ} {at m q r : ℕ} (x y : ℕ) → x < 256 → y < 256 → Wrote a at (bytesOf 1 2) b m → Wrote b m (bytesOf 1 x) d q → Wrote d q (bytesOf 1 y) e r
+    → Wrote a at (2 ∷ x ∷ y ∷ []) e r
+unfolding bytesOf
+levels-put x y xs ys u v w = wrote-join u (wrote-join (wrote-as (x ∷ []) (byte-in x xs) v) (wrote-as (y ∷ []) (byte-in y ys) w))
+
+pub levels-second : {a b : List ℕ} {at m : ℕ} (x : ℕ) → at + 3 ≤ length a → Wrote a at (bytesOf 1 x) b m → m + 1 ≤ length b
+levels-second x room w = omega (arith, wrote-to 1 x w, wrote-length w)
+
+pub levels-third : {a b d : List ℕ} {at m q : ℕ} (x y : ℕ) → at + 3 ≤ length a → Wrote a at (bytesOf 1 x) b m → Wrote b m (bytesOf 1 y) d q → q + 1 ≤ length d
+levels-third x y room w v = omega (arith, wrote-to 1 x w, wrote-length w, wrote-to 1 y v, wrote-length v)
+
+pub levels-end : {a b d e : List ℕ} {at m q r : ℕ} (x y z : ℕ) → Wrote a at (bytesOf 1 x) b m → Wrote b m (bytesOf 1 y) d q → Wrote d q (bytesOf 1 z) e r → r ≡ at + 3
+levels-end x y z u v w = omega (arith, wrote-to 1 x u, wrote-to 1 y v, wrote-to 1 z w)
+
+pub pair-room : {a b : List ℕ} {at m : ℕ} (x : ℕ) → at + 8 ≤ length a → Wrote a at (bytesOf 4 x) b m → m + 4 ≤ length b
+pair-room x room w = omega (arith, wrote-to 4 x w, wrote-length w)
+
+pub pair-put : {a b d : List ℕ} {at m r : ℕ} (x y : ℕ) → Wrote a at (bytesOf 4 x) b m → Wrote b m (bytesOf 4 y) d r → Wrote a at (bytesOf 4 x ++ bytesOf 4 y) d r
+pair-put x y w v = wrote-join w v
+
+pub pair-end : {a b d : List ℕ} {at m r : ℕ} (x y : ℕ) → Wrote a at (bytesOf 4 x) b m → Wrote b m (bytesOf 4 y) d r → r ≡ at + 8
+pair-end x y w v = omega (arith, wrote-to 4 x w, wrote-to 4 y v)
+
+-- room for the second pair
+pub pairs-room : {a b xs : List ℕ} {at m : ℕ} → at + 16 ≤ length a → Wrote a at xs b m → m ≡ at + 8 → m + 8 ≤ length b
+pairs-room room w e = omega (arith, wrote-length w)
+
+pub features-put : {a b d : List ℕ} {at m r : ℕ} (t : Tally) → Wrote a at (bytesOf 4 (t .meta) ++ bytesOf 4 0) b m
+    → Wrote b m (bytesOf 4 (t .geo) ++ bytesOf 4 (t .collection)) d r → Wrote a at (featureCounts t) d r
+unfolding featureCounts bytesOf
+features-put t w v = wrote-join w v
+
+pub vectors-put : {a b d : List ℕ} {at m r : ℕ} (t : Tally) → Wrote a at (bytesOf 4 (t .isolated) ++ bytesOf 4 (t .connected)) b m
+    → Wrote b m (bytesOf 4 (t .edges) ++ bytesOf 4 0) d r → Wrote a at (vectorCounts t) d r
+unfolding vectorCounts bytesOf
+vectors-put t w v = wrote-join w v
+
+-- room behind three bytes, and behind sixteen more
+pub features-room : {a b xs : List ℕ} {at m : ℕ} → at + 35 ≤ length a → Wrote a at xs b m → m ≡ at + 3 → m + 16 ≤ length b
+features-room room w e = omega (arith, wrote-length w)
+
+pub vectors-room : {a b d xs ys : List ℕ} {at m q : ℕ} → at + 35 ≤ length a → Wrote a at xs b m → m ≡ at + 3 → Wrote b m ys d q → q ≡ m + 16 → q + 16 ≤ length d
+vectors-room room w e v f = omega (arith, wrote-length w, wrote-length v)
+
+pub dssi-put : {a b d e : List ℕ} {at m q r x y : ℕ} (t : Tally) → Wrote a at (2 ∷ x ∷ y ∷ []) b m → Wrote b m (featureCounts t) d q → Wrote d q (vectorCounts t) e r
+    → Wrote a at (dssiBytes x y t) e r
+unfolding dssiBytes
+dssi-put t w v u = wrote-join w (wrote-join v u)

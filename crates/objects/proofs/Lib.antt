@@ -1,0 +1,9 @@
+-- Laws that the crates above lean on.
+pub mod ViewLaws
+pub mod KindLaws
+pub mod LaidLaws
+pub mod IdLaws
+pub mod ObjectLaws
+pub mod JoinLaws
+pub mod ReadLaws
+pub mod BytesLaws
