@@ -43,7 +43,7 @@ fn one(is: bool) -> u32
 }
 
 // The tally with a vector of this RCNM.
-fn add_vector(t: Tally, rcnm: u32) -> Tally
+pub fn add_vector(t: Tally, rcnm: u32) -> Tally
     requires { ⌜ AtMost 5242880 t ⌝ }
     ensures { λ r. ⌜ r ≡ withVector t rcnm ⌝ }
 {
@@ -58,7 +58,7 @@ fn add_vector(t: Tally, rcnm: u32) -> Tally
 }
 
 // The tally with a feature of this class.
-fn add_feature(t: Tally, objl: u32) -> Tally
+pub fn add_feature(t: Tally, objl: u32) -> Tally
     requires { ⌜ AtMost 5242880 t ⌝ }
     ensures { λ r. ⌜ r ≡ withFeature t objl ⌝ }
 {

@@ -1,0 +1,44 @@
+-- The records of DSID and of DSPM, over their contents. Nothing here need be believed. Assumes nothing.
+use Prim.Native.Nat.{ℕ, _+_, _≤_}
+use mathlib.Core.List.{List, [], _∷_}
+use mathlib.Core.Path.{_≡_}
+use lib.ListN.{length}
+use Rattle.octets.specs.Number.{bytesOf}
+use Rattle.iso8211.specs.Field.{countAt, fieldAt, RecordIn}
+use Rattle.iso8211.specs.declared.field.Field.{Field}
+use Rattle.table.specs.Table.{first, DSID, DSSI, DSPM}
+use Rattle.layout.specs.Record.{contentAt}
+use Rattle.records.specs.Pieces.{Piece}
+use Rattle.records.specs.Written.{sizeOf}
+use Rattle.objects.specs.Object.{piece}
+use Rattle.header.specs.Dsid.{dsidOf, dsidBytes}
+use Rattle.header.specs.Known.{Known}
+
+abbrev pub dsidFields : List ℕ → List ℕ → List Piece
+dsidFields d v = piece first (bytesOf 2 1) ∷ piece DSID d ∷ piece DSSI v ∷ []
+
+abbrev pub dspmFields : List ℕ → List Piece
+dspmFields d = piece first (bytesOf 2 2) ∷ piece DSPM d ∷ []
+
+-- field j of the record at `at`, and that its bytes are there
+pub record FieldThere (s : List ℕ) (at j : ℕ) (f : Field) : Type 0 where
+  pub is : f ≡ fieldAt s at j
+  pub long : 1 ≤ f .length
+  pub few : f .length ≤ 99999
+  pub within : f .start + f .length ≤ length s
+
+-- the record at `at` is that of a DSID without a fault, and of a DSSI
+pub record DsidIn (s : List ℕ) (at : ℕ) : Type 0 where
+  pub inside : RecordIn s at
+  pub third : 3 ≤ countAt s at
+  pub known : Known (contentAt s at 1)
+  pub whole : fieldAt s at 2 .start + 35 ≤ length s
+
+pub record DspmIn (s : List ℕ) (at : ℕ) : Type 0 where
+  pub inside : RecordIn s at
+  pub second : 2 ≤ countAt s at
+
+-- the record of DSID has r bytes, whatever its counts
+pub record DsidSized (s : List ℕ) (at r : ℕ) : Type 0 where
+  pub is : (v : List ℕ) → length v ≡ 35 → r ≡ sizeOf (dsidFields (dsidBytes (dsidOf (contentAt s at 1))) v)
+  pub few : r ≤ 200000

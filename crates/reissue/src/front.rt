@@ -1,0 +1,169 @@
+// The records of DSID and of DSPM: their sizes and their bytes.
+ghost use Prim.Native.Nat.{ℕ, _+_, _≤_, _<_};
+ghost use mathlib.Core.Path.{_≡_};
+ghost use mathlib.Core.List.{List, [], _∷_, _++_};
+ghost use lib.ListN.{length, take};
+ghost use Rattle.octets.specs.Number.{bytesOf};
+ghost use Rattle.octets.specs.Area.{Wrote};
+ghost use Rattle.iso8211.specs.Field.{countAt, fieldAt, RecordIn};
+ghost use Rattle.layout.specs.Record.{contentAt};
+ghost use Rattle.chart.specs.Read.{aallAt, nallAt};
+ghost use Rattle.records.specs.Written.{bodyOf, recordBytes, sizeOf};
+ghost use Rattle.header.specs.Dsid.{dsidOf, dsidBytes};
+ghost use Rattle.header.specs.Dssi.{dssiBytes};
+ghost use Rattle.header.specs.Known.{Known};
+ghost use Rattle.reissue.specs.Front.{dsidFields, dspmFields, FieldThere, DsidSized, DsidIn, DspmIn};
+use header::dsid::dsid_size;
+use header::dsid::put_dsid;
+use header::dssi::put_dssi;
+use iso8211::field::Field;
+use iso8211::field::field_at;
+use iso8211::field::head_of;
+use names::counts::Tally;
+use octets::area::copy;
+use octets::number::put1;
+use octets::number::put2;
+use records::head::base_of;
+use records::head::put_head;
+
+// Field j of the record at `at`.
+fn field_in(s: &[u8], at: usize, j: usize) -> Field
+    requires { ⌜ RecordIn (now s) at × (j < countAt (now s) at) ⌝ }
+    ensures { λ r. ⌜ FieldThere (now (s .entry)) at j r ⌝ }
+{
+    field_at(s, at, head_of(s, at), j)
+}
+
+// The bytes of field j of the record at `at`, without its 1E.
+fn content<'a>(s: &'a [u8], at: usize, j: usize) -> &'a [u8]
+    requires { ⌜ RecordIn (now s) at × (j < countAt (now s) at) ⌝ }
+    ensures { λ r. ⌜ (now r ≡ contentAt (now (s .entry)) at j) × (length (now r) ≤ 99999) ⌝ }
+{
+    let f = field_in(s, at, j);
+    let from = f.start;
+    let to = from + (f.length - 1);
+    &s[from..to]
+}
+
+// The rows of the record of a DSID of `size` bytes.
+fn dsid_rows(size: u32) -> [[u32; 3]; 8]
+    requires { ⌜ size ≤ 200000 ⌝ }
+    ensures { λ r. ⌜ take 3 r ≡ (808464433 ∷ 3 ∷ 0 ∷ []) ∷ (1146308932 ∷ (size + 1) ∷ 3 ∷ []) ∷ (1146311497 ∷ 36 ∷ (size + 4) ∷ []) ∷ [] ⌝ }
+{
+    let mut rows = [[0u32; 3]; 8];
+    rows[0] = [0x30303031, 3, 0];
+    rows[1] = [0x44534944, size + 1, 3];
+    rows[2] = [0x44535349, 36, size + 4];
+    rows
+}
+
+// Those of the record of a DSPM of `size` bytes.
+fn dspm_rows(size: u32) -> [[u32; 3]; 8]
+    requires { ⌜ size ≤ 200000 ⌝ }
+    ensures { λ r. ⌜ take 2 r ≡ (808464433 ∷ 3 ∷ 0 ∷ []) ∷ (1146310733 ∷ (size + 1) ∷ 3 ∷ []) ∷ [] ⌝ }
+{
+    let mut rows = [[0u32; 3]; 8];
+    rows[0] = [0x30303031, 3, 0];
+    rows[1] = [0x4453504D, size + 1, 3];
+    rows
+}
+
+// How many bytes the record of DSID, which is at `at`, has in held form.
+pub fn dsid_total(s: &[u8], at: usize) -> u32
+    requires { ⌜ DsidIn (now s) at ⌝ }
+    ensures { λ r. ⌜ DsidSized (now (s .entry)) at r ⌝ }
+{
+    let size = dsid_size(content(s, at, 1)) as u32;
+    let rows = dsid_rows(size);
+    base_of(rows, 3) + (40 + size)
+}
+
+// The same of the record of DSPM.
+pub fn dspm_total(s: &[u8], at: usize) -> u32
+    requires { ⌜ DspmIn (now s) at ⌝ }
+    ensures { λ r. ⌜ (r ≡ sizeOf (dspmFields (contentAt (now (s .entry)) at 1))) × (r ≤ 200000) ⌝ }
+{
+    let size = content(s, at, 1).len() as u32;
+    let rows = dspm_rows(size);
+    base_of(rows, 2) + (4 + size)
+}
+
+// 0001 with this number, and its 1E.
+fn put_number(number: u32, out: &mut [u8], place: usize) -> usize
+    requires { ⌜ place + 3 ≤ length (now out) ⌝ }
+    ensures { λ r. ⌜ Wrote (now (out .entry)) place (bytesOf 2 number ++ (30 ∷ [])) (now (out .exit)) r × (r ≡ place + 3) ⌝ }
+{
+    let end = put2(out, place, number);
+    put1(out, end, 30)
+}
+
+// DSID, and its 1E.
+fn put_named(f: &[u8], out: &mut [u8], place: usize) -> usize
+    requires { ⌜ Known (now f) × (place + (length (dsidBytes (dsidOf (now f))) + 1) ≤ length (now out)) ⌝ }
+    ensures { λ r. ⌜ Wrote (now (out .entry)) place (dsidBytes (dsidOf (now (f .entry))) ++ (30 ∷ [])) (now (out .exit)) r ⌝ }
+{
+    let end = put_dsid(f, out, place);
+    put1(out, end, 30)
+}
+
+// Where DSSI starts in the record at `at`.
+fn dssi_at(s: &[u8], at: usize) -> usize
+    requires { ⌜ DsidIn (now s) at ⌝ }
+    ensures { λ r. ⌜ (r ≡ fieldAt (now (s .entry)) at 2 .start) × (r + 35 ≤ length (now (s .entry))) ⌝ }
+{
+    let f = field_in(s, at, 2);
+    f.start
+}
+
+// DSSI with these counts and the levels of the record at `at`, and its 1E.
+fn put_counts(s: &[u8], at: usize, t: Tally, out: &mut [u8], place: usize) -> usize
+    requires { ⌜ DsidIn (now s) at × (place + 36 ≤ length (now out)) ⌝ }
+    ensures { λ r. ⌜ Wrote (now (out .entry)) place (dssiBytes (aallAt (now (s .entry)) at) (nallAt (now (s .entry)) at) t ++ (30 ∷ [])) (now (out .exit)) r ⌝ }
+{
+    let i = dssi_at(s, at);
+    let end = put_dssi(s[i + 1], s[i + 2], t, out, place);
+    put1(out, end, 30)
+}
+
+// The fields of the record of DSID with these counts.
+fn put_dsid_fields(s: &[u8], at: usize, t: Tally, out: &mut [u8], place: usize) -> usize
+    requires { ⌜ DsidIn (now s) at × (place + (40 + length (dsidBytes (dsidOf (contentAt (now s) at 1)))) ≤ length (now out)) ⌝ }
+    ensures { λ r. ⌜ Wrote (now (out .entry)) place (bodyOf (dsidFields (dsidBytes (dsidOf (contentAt (now (s .entry)) at 1))) (dssiBytes (aallAt (now (s .entry)) at) (nallAt (now (s .entry)) at) t))) (now (out .exit)) r ⌝ }
+{
+    let a = put_number(1, out, place);
+    let b = put_named(content(s, at, 1), out, a);
+    put_counts(s, at, t, out, b)
+}
+
+// The record of DSID, which is at `at`, with these counts.
+pub fn put_dsid_record(s: &[u8], at: usize, t: Tally, out: &mut [u8], place: usize) -> usize
+    requires { ⌜ DsidIn (now s) at × (place + sizeOf (dsidFields (dsidBytes (dsidOf (contentAt (now s) at 1))) (dssiBytes (aallAt (now s) at) (nallAt (now s) at) t)) ≤ length (now out)) ⌝ }
+    ensures { λ r. ⌜ Wrote (now (out .entry)) place (recordBytes (dsidFields (dsidBytes (dsidOf (contentAt (now (s .entry)) at 1))) (dssiBytes (aallAt (now (s .entry)) at) (nallAt (now (s .entry)) at) t))) (now (out .exit)) r ⌝ }
+{
+    let size = dsid_size(content(s, at, 1)) as u32;
+    let rows = dsid_rows(size);
+    let a = put_head(out, place, rows, 3, 40 + size);
+    put_dsid_fields(s, at, t, out, a)
+}
+
+// The fields of the record of DSPM.
+fn put_dspm_fields(f: &[u8], out: &mut [u8], place: usize) -> usize
+    requires { ⌜ place + (4 + length (now f)) ≤ length (now out) ⌝ }
+    ensures { λ r. ⌜ Wrote (now (out .entry)) place (bodyOf (dspmFields (now (f .entry)))) (now (out .exit)) r ⌝ }
+{
+    let a = put_number(2, out, place);
+    let b = copy(f, out, a);
+    put1(out, b, 30)
+}
+
+// The record of DSPM, which is at `at`.
+pub fn put_dspm_record(s: &[u8], at: usize, out: &mut [u8], place: usize) -> usize
+    requires { ⌜ DspmIn (now s) at × (place + sizeOf (dspmFields (contentAt (now s) at 1)) ≤ length (now out)) ⌝ }
+    ensures { λ r. ⌜ Wrote (now (out .entry)) place (recordBytes (dspmFields (contentAt (now (s .entry)) at 1))) (now (out .exit)) r ⌝ }
+{
+    let f = content(s, at, 1);
+    let size = f.len() as u32;
+    let rows = dspm_rows(size);
+    let a = put_head(out, place, rows, 2, 4 + size);
+    put_dspm_fields(f, out, a)
+}

@@ -1,0 +1,48 @@
+// How long the held form is, and whether it keeps its limits: decided before a byte is written.
+ghost use Prim.Native.Nat.{_+_, _≤_, max};
+ghost use mathlib.Core.Path.{_≡_};
+ghost use lib.ListN.{length};
+ghost use Rattle.words.specs.Words.{wordsIn};
+ghost use Rattle.reissue.specs.Plan.{chartFrom, Writing, withinLimits, Planned};
+use crate::front::dsid_total;
+use crate::front::dspm_total;
+use iso8211::field::record_end;
+use records::head::larger;
+use writing::all::measure;
+
+// Whether the held form keeps its limits, and how many bytes it has.
+pub struct Plan {
+    pub fits: bool,
+    pub total: usize,
+}
+
+// Whether n records, the longest of `most` bytes, `total` bytes in all, keep the limits.
+fn within_limits(n: usize, most: u32, total: usize) -> bool
+    ensures { λ r. ⌜ r ≡ withinLimits n most total ⌝ }
+{
+    if 65536 < n {
+        return false;
+    }
+    if 99999 < most {
+        return false;
+    }
+    total <= 5242880
+}
+
+// The plan of a cell of m items.
+pub fn planned(s: &[u8], m: usize, work: &[u8]) -> Plan
+    requires { ⌜ Writing (now s) m (now work) ⌝ }
+    ensures { λ r. ⌜ Planned (chartFrom (now (s .entry)) (wordsIn (now (work .entry)) 0 m)) r ⌝ }
+{
+    let first = record_end(s, 0);
+    let second = record_end(s, first);
+    let dsid = dsid_total(s, first);
+    let dspm = dspm_total(s, second);
+    let sizes = measure(s, m, work);
+    let most = larger(larger(dsid, dspm), sizes.most);
+    let total = 1561 + dsid as usize + dspm as usize + sizes.sum;
+    Plan {
+        fits: within_limits(3 + m, most, total),
+        total,
+    }
+}

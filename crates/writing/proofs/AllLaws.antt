@@ -1,0 +1,123 @@
+-- All items written and counted: turns of the loops; and that records which are short enough fit. Assumes nothing.
+use Prim.Native.Nat.{_*_, ℕ, suc, _+_, _≤_, _<_, max}
+use mathlib.Core.Bool.{true, false}
+use mathlib.Core.List.{List, [], _∷_, _++_}
+use mathlib.Core.Logic.{⊎-elim}
+use mathlib.Core.Path.{_≡_, refl, sym, ap, _∙_}
+use native.Mathlib.Numerals.{add-one}
+use native.Mathlib.Omega.{arith}
+use lib.ListN.{length, drop, getD, length-append, drop-of-length-le}
+use lib.Seq.{drop-cons}
+use Rattle.octets.specs.Area.{Wrote, Going}
+use Rattle.octets.proofs.AreaLaws.{going-start, going-step, going-end, going-room}
+use Rattle.octets.proofs.Cases.{true-or-false}
+use Rattle.words.specs.Words.{wordAt, wordsIn}
+use Rattle.words.proofs.WordsLaws.{words-length, words-at}
+use Rattle.items.specs.Identity.{placeOf}
+use Rattle.records.specs.Written.{recordBytes, recordsBytes, sizeOf, AllFit, fit-none, fit-more}
+use Rattle.records.proofs.WrittenLaws.{record-length}
+use Rattle.objects.specs.Object.{Object, objectAt, objectPieces, featurePieces, vectorPieces, isFeature}
+use Rattle.held.specs.Held.{objectsPieces}
+use Rattle.writing.specs.Plain.{Writable, ItemSized}
+use Rattle.writing.specs.All.{objectsAt, writtenFrom, mostOf, Words, AllSized}
+
+one-more : (n : ℕ) (s : List ℕ) (w : ℕ) (ws : List ℕ)
+    → writtenFrom n s (w ∷ ws) ≡ recordBytes (objectPieces n (objectAt s (placeOf w))) ++ writtenFrom (n + 1) s ws
+unfolding writtenFrom objectsAt objectsPieces recordsBytes
+one-more n s w ws = refl
+
+none-left : (n : ℕ) (s : List ℕ) → writtenFrom n s [] ≡ []
+unfolding writtenFrom objectsAt objectsPieces recordsBytes
+none-left n s = refl
+
+-- ---- the item of word k, which is w: its record, and those of the words behind it
+module _ (s work : List ℕ) (m k w : ℕ) (here : k < m) (read : w ≡ wordAt work k) where
+  abbrev all-words : List ℕ
+  all-words = wordsIn work 0 m
+
+  abbrev one : List ℕ
+  one = recordBytes (objectPieces (k + 3) (objectAt s (placeOf w)))
+
+  abbrev rest : List ℕ
+  rest = writtenFrom (k + 1 + 3) s (drop (k + 1) all-words)
+
+  peel : drop k all-words ≡ w ∷ drop (k + 1) all-words
+  peel =
+      let same : 0 + k ≡ k = omega arith in
+      let first : getD all-words k 0 ≡ w = words-at work 0 m k here ∙ ap (λ (i : ℕ). wordAt work i) same ∙ sym read in
+      rw (add-one k) (drop-cons all-words k 0 (rw (words-length work 0 m) here) ∙ ap (λ (x : ℕ). x ∷ drop (suc k) all-words) first)
+
+  all-next : writtenFrom (k + 3) s (drop k all-words) ≡ one ++ rest
+  all-next =
+      let e : k + 3 + 1 ≡ k + 1 + 3 = omega arith in
+      ap (λ (l : List ℕ). writtenFrom (k + 3) s l) peel ∙ one-more (k + 3) s w (drop (k + 1) all-words)
+      ∙ ap (λ (n : ℕ). one ++ writtenFrom n s (drop (k + 1) all-words)) e
+
+  next-long : length (writtenFrom (k + 3) s (drop k all-words)) ≡ sizeOf (objectPieces (k + 3) (objectAt s (placeOf w))) + length rest
+  next-long = ap length all-next ∙ length-append one rest ∙ ap (λ (n : ℕ). n + length rest) (record-length (objectPieces (k + 3) (objectAt s (placeOf w))))
+
+  pub word-writable : Words s m work → Writable s (placeOf w)
+  word-writable ws = rw read (ws .each k here)
+
+  pub all-room : {a b all : List ℕ} {p q : ℕ} → Going a p all b q (writtenFrom (k + 3) s (drop k (wordsIn work 0 m))) → p + length all ≤ length a
+      → q + sizeOf (objectPieces (k + 3) (objectAt s (placeOf w))) ≤ length b
+  all-room g room = omega (arith, going-room g room, next-long)
+
+  pub all-on : {a b d all : List ℕ} {p q r : ℕ} → Going a p all b q (writtenFrom (k + 3) s (drop k (wordsIn work 0 m)))
+      → Wrote b q (recordBytes (objectPieces (k + 3) (objectAt s (placeOf w)))) d r → Going a p all d r (writtenFrom (k + 1 + 3) s (drop (k + 1) (wordsIn work 0 m)))
+  all-on g v = going-step one rest g all-next v
+
+  module _ (size : ℕ) (sized : ItemSized s (placeOf w) size) where
+    pub sum-on : (all sum : ℕ) → all ≡ sum + length (writtenFrom (k + 3) s (drop k (wordsIn work 0 m)))
+        → all ≡ sum + size + length (writtenFrom (k + 1 + 3) s (drop (k + 1) (wordsIn work 0 m)))
+    sum-on all sum so = omega (arith, next-long, sized .is (k + 3))
+
+    pub most-on : (all most now : ℕ) → all ≡ max most (mostOf (k + 3) s (drop k (wordsIn work 0 m))) → now ≡ max most size
+        → all ≡ max now (mostOf (k + 1 + 3) s (drop (k + 1) (wordsIn work 0 m)))
+    unfolding mostOf
+    most-on all most now so e =
+        let z = sized .is (k + 3) in
+        let n : k + 3 + 1 ≡ k + 1 + 3 = omega arith in
+        let long = sizeOf (objectPieces (k + 3) (objectAt s (placeOf w))) in
+        let next : mostOf (k + 3) s (drop k all-words) ≡ max long (mostOf (k + 1 + 3) s (drop (k + 1) all-words)) =
+        ap (λ (l : List ℕ). mostOf (k + 3) s l) peel ∙ ap (λ (x : ℕ). max long (mostOf x s (drop (k + 1) all-words))) n in
+        omega arith
+
+-- ---- before the first word, and behind the last
+pub all-start : (a : List ℕ) (p : ℕ) (s ws : List ℕ) → p + length (writtenFrom 3 s ws) ≤ length a → Going a p (writtenFrom 3 s ws) a p (writtenFrom (0 + 3) s (drop 0 ws))
+all-start a p s ws h = going-start a p (writtenFrom 3 s ws) (omega arith)
+
+module _ (s work : List ℕ) (m k : ℕ) (past : m ≤ k) where
+  gone : drop k (wordsIn work 0 m) ≡ []
+  gone = drop-of-length-le (wordsIn work 0 m) {i = k} (rw (words-length work 0 m) past)
+
+  none : writtenFrom (k + 3) s (drop k (wordsIn work 0 m)) ≡ []
+  none = ap (λ (l : List ℕ). writtenFrom (k + 3) s l) gone ∙ none-left (k + 3) s
+
+  pub all-end : {a b all : List ℕ} {p q : ℕ} → Going a p all b q (writtenFrom (k + 3) s (drop k (wordsIn work 0 m))) → Wrote a p all b q
+  all-end g = going-end g none
+
+  pub sizes-end : (sum most : ℕ) → m ≤ 65536 → k ≤ m → sum ≤ k * 500000
+      → length (writtenFrom 3 s (wordsIn work 0 m)) ≡ sum + length (writtenFrom (k + 3) s (drop k (wordsIn work 0 m)))
+      → mostOf 3 s (wordsIn work 0 m) ≡ max most (mostOf (k + 3) s (drop k (wordsIn work 0 m))) → AllSized s (wordsIn work 0 m) (record { sum = sum; most = most })
+  unfolding mostOf
+  sizes-end sum most few le low so mo =
+      let e = ap length none in
+      let f : mostOf (k + 3) s (drop k (wordsIn work 0 m)) ≡ 0 = ap (λ (l : List ℕ). mostOf (k + 3) s l) gone in
+      record { sum-is = omega arith; most-is = omega arith; sum-few = omega arith }
+
+-- ---- the test before writing: no record is too long
+object-some : (n : ℕ) (t : Object) → 1 ≤ length (objectPieces n t)
+unfolding objectPieces featurePieces vectorPieces
+object-some n t =
+    ⊎-elim
+    (λ (e : isFeature (t .rcnm) ≡ true). rw e (omega arith))
+    (λ (e : isFeature (t .rcnm) ≡ false). rw e (omega arith))
+    (true-or-false (isFeature (t .rcnm)))
+
+pub all-fit : (n : ℕ) (s ws : List ℕ) → mostOf n s ws ≤ 99999 → AllFit (objectsPieces n (objectsAt s ws))
+unfolding mostOf objectsAt objectsPieces
+all-fit n s [] h = fit-none
+all-fit n s (w ∷ ws) h =
+    let fs = objectPieces n (objectAt s (placeOf w)) in
+    fit-more {r = fs} (record { some = object-some n (objectAt s (placeOf w)); small = omega arith }) (all-fit (n + 1) s ws (omega arith))

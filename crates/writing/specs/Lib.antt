@@ -1,0 +1,4 @@
+-- The notions of `writing`, in the order in which a reader should meet them.
+pub mod Plain
+pub mod Joined
+pub mod All
