@@ -43,11 +43,16 @@ use Rattle.shape.specs.Shape.{shapeGood, shapeCode}
 use Rattle.pointer.specs.Pointer.{firstCode, namesCode, lnamsCode, pointerCode}
 use Rattle.ring.specs.Ring.{nodeIn, ringsGood, ringCode}
 use Rattle.topology.specs.Topology.{itemCode, codeAmong, faultFrom, topologyOf, topologyFault}
-use Rattle.reader.specs.Reader.{answer, filed, framedFront, frontOf, twiceRefusal, countsRefusal, cellFault, workAnswer}
+use Rattle.reader.specs.Reader.{answer, filed, firstRefusal, framedFront, frontOf, twiceRefusal, countsRefusal, cellFault, workAnswer}
 use Rattle.reader.specs.declared.answer.Answer.{Answer}
 use Rattle.reader.specs.declared.front.Front.{Front}
 use Rattle.reader.specs.declared.front.Front.the-variants.{Count, Refused}
 use Rattle.loader.specs.Judge.{cellVerdict, judgeChecked, judgeFront, judgeOf}
+use Rattle.held.specs.Chart.{Chart, chartOf}
+use Rattle.held.specs.Held.{heldOf}
+use Rattle.held.specs.Limits.{fits}
+use Rattle.held.proofs.LimitsLaws.{fits-told}
+use Rattle.loader.specs.Admit.{heldAnswer, admitChecked, admitFront, admitOf}
 use Rattle.loader.specs.Answer.{answerBytes}
 
 -- ---- a refusal's code is one of document 01's, and its record at most m
@@ -203,6 +208,34 @@ judge-small cell w =
     ⊎-elim (λ (t : ltb 5242880 (length cell) ≡ true). rw t (small-made 1 1 0 0 0 (omega arith) (omega arith) (omega arith) (omega arith)))
     (λ (t : ltb 5242880 (length cell) ≡ false). rw t (small-framed cell w (frameOf cell) refl (ltb-false _ _ t))) (true-or-false (ltb 5242880 (length cell)))
 
+-- ---- the same of Admit: what fits has a length of four bytes
+small-held : (o : ℕ) (c : Chart) → Small (heldAnswer o c)
+unfolding heldAnswer
+small-held o c =
+    ⊎-elim (λ (f : fits c ≡ true).
+    let n = length (heldOf c) in
+    let short = fits-told c f .short in
+    rw f (small-cond (ltb o n) (small-made 21 0 0 n 0 (omega arith) (omega arith) (omega arith) (omega arith)) (small-made 0 0 0 n 0 (omega arith) (omega arith) (omega arith) (omega arith))))
+    (λ (f : fits c ≡ false). rw f (small-made 20 3 0 0 0 (omega arith) (omega arith) (omega arith) (omega arith))) (true-or-false (fits c))
+
+small-admitted : (cell : List ℕ) (w o n : ℕ) → n ≤ 5242880 → Small (admitChecked cell w o n)
+unfolding admitChecked workAnswer firstRefusal
+small-admitted cell w o n h =
+    small-cond (ltb w (16 * n)) (small-made 3 0 0 (16 * n) 0 (omega arith) (omega arith) (omega arith) (omega arith))
+    (small-cond (eqb (cellVerdict cell n .code) 0) (small-held o (chartOf cell n)) (small-filed (cellVerdict cell n) (verdict-few cell n) (omega arith)))
+
+small-opened : (cell : List ℕ) (w o : ℕ) (f : Framed) → f ≡ frameOf cell → length cell ≤ 5242880 → Small (admitFront cell w o (framedFront 1 cell f))
+unfolding admitFront framedFront
+small-opened cell w o (Records n) e short = let few = records-few cell n (sym e) in small-admitted cell w o n (omega arith)
+small-opened cell w o (Broken k) e short =
+    let few = broken-few cell k (sym e) in small-made 2 1 k 0 (recordAt cell k) (omega arith) (omega arith) (omega arith) (omega arith)
+
+pub admit-small : (cell : List ℕ) (w o : ℕ) → Small (admitOf cell w o)
+unfolding admitOf admitFront frontOf
+admit-small cell w o =
+    ⊎-elim (λ (t : ltb 5242880 (length cell) ≡ true). rw t (small-made 1 1 0 0 0 (omega arith) (omega arith) (omega arith) (omega arith)))
+    (λ (t : ltb 5242880 (length cell) ≡ false). rw t (small-opened cell w o (frameOf cell) refl (ltb-false _ _ t))) (true-or-false (ltb 5242880 (length cell)))
+
 -- ---- the sixteen bytes, read again: what a host gets
 pub record ReadsAs (s : List ℕ) (a : Answer) : Type 0 where
   pub code-read : numAt s 0 4 ≡ a .code
@@ -234,3 +267,6 @@ bytes-read a small =
 -- "fills a 16-byte answer (code, file, record, number, each 4 bytes, low byte first)"
 pub answer-reads : (cell : List ℕ) (w : ℕ) → ReadsAs (answerBytes (judgeOf cell w)) (judgeOf cell w)
 answer-reads cell w = bytes-read (judgeOf cell w) (judge-small cell w)
+
+pub admit-reads : (cell : List ℕ) (w o : ℕ) → ReadsAs (answerBytes (admitOf cell w o)) (admitOf cell w o)
+admit-reads cell w o = bytes-read (admitOf cell w o) (admit-small cell w o)

@@ -1,21 +1,29 @@
 -- Document 01's bench sheet as far as it is proved: one table, computed from the definitions. Assumes nothing.
 use Prim.Native.Nat.{ℕ, _+_, _-_, _*_, _/_, _%_}
 use mathlib.Core.Bool.{cond, _&&_, _||_}
-use mathlib.Core.List.{List, [], _∷_, _++_}
+use mathlib.Core.List.{List, [], _∷_, _++_, flatten}
 use mathlib.Core.Path.{_≡_, refl}
+use lib.ListN.{take}
 use lib.Dec.{eqb}
 use Rattle.octets.specs.Number.{byteAt, numAt, bytesOf}
 use Rattle.entries.specs.Rules.{allOf, through}
-use Rattle.table.specs.Table.{VRPT, SG2D, FSPT}
+use Rattle.octets.specs.Digits.{digitsOf, fewest, fewestFrom}
+use Rattle.iso8211.specs.Directory.{len}
+use Rattle.table.specs.Table.{VRPT, SG2D, FSPT, rowOf, table, tagOf, asNumber}
+use Rattle.table.specs.Text.{bytes}
 use Rattle.values.specs.Class.{isCollection}
 use Rattle.values.specs.Rule.{within}
 use Rattle.items.specs.Identity.{rankOf, nameFrom}
 use Rattle.items.specs.Item.{Item, itemName}
 use Rattle.names.specs.Lookup.{nameIn, foundCode}
 use Rattle.names.specs.Held.{placeFrom, placeIn, objectIn}
-use Rattle.shape.specs.Shape.{magnitude, pairGood, coordinatesGood, isolatedGood, connectedGood, endGood, addTopi, edgeGood, classGood, vectorGood, isNode, pointGood, oneOrTwo, lineGood, areaGood, spatialGood, spatialCount, featureGood, shapeGood, shapeCode}
+use Rattle.shape.specs.Shape.{magnitude, pairGood, coordinatesGood, isolatedGood, connectedGood, endGood, addTopi, edgeGood, classGood, vectorGood, isNode, pointGood, oneOrTwo}
+use Rattle.shape.specs.Shape.{lineGood, areaGood, spatialGood, spatialCount, featureGood, shapeGood, shapeCode}
 use Rattle.pointer.specs.Pointer.{firstCode, namesCode, lnamsCode, pointerCode}
 use Rattle.ring.specs.Ring.{nodeStep, nodeWith, nodeOf, nodesOf, found, nodeIn, stepOf, usageGood, along, ringsFrom, ringsGood, ringCode}
+use Rattle.records.specs.Pieces.{Piece}
+use Rattle.records.specs.Written.{tagBytes, bodyOf, rowsFor, longest, farthest, rowBytes, rowsBytes, baseFor, leaderOf, headOver, headBytes, recordBytes, sizeOf}
+use Rattle.objects.specs.Object.{Object, isFeature, listPiece, listPieces, vridBytes, vectorPieces, featurePieces, objectPieces}
 use Rattle.topology.specs.Topology.{itemCode, codeAmong, faultFrom, topologyOf}
 
 -- ---- small charts
@@ -53,25 +61,60 @@ loops es = node 1 ∷ edge 1 1 1 ∷ edge 2 1 1 ∷ area es ∷ []
 unfoldable pub isolated : ℕ → List Item
 isolated x = item 110 1 SG2D ((bytesOf 4 0 ++ bytesOf 4 x) ∷ []) ∷ []
 
--- ---- the rows: what Judge's topology gives, at COMF 10,000,000
-unfoldable pub row : List Item → ℕ
-row all = topologyOf 10000000 all .code
+-- ---- vectors as the held form writes them
+-- a vector of this class, with one list
+unfoldable pub vector : ℕ → ℕ → List (List ℕ) → Object
+vector rcnm kind es = record {
+  rcnm = rcnm;
+  rcid = 1;
+  version = 1;
+  prim = 0;
+  grup = 0;
+  objl = 0;
+  foid = 0;
+  lists = λ (k : ℕ). cond (eqb k kind) es [];
+}
 
--- "4. Area 1F 2F 3R closes; 1F 2F 3F is 19."  "5. A loop edge alone is a ring; two such as exterior are 19."  "9. X = 1,800,000,000 at COMF
--- 10,000,000 passes; one more is 17."
+-- "Connected node", "Edge, no coordinates"
+unfoldable pub heldNode : List Piece
+heldNode = objectPieces 3 (vector 120 SG2D ((bytesOf 4 0 ++ bytesOf 4 0) ∷ []))
+
+unfoldable pub heldEdge : List Piece
+heldEdge = objectPieces 3 (vector 130 VRPT (end 1 1 ∷ end 2 2 ∷ []))
+
+-- the lengths of a record's fields
+unfoldable pub lengths : List (List ℕ) → List ℕ
+lengths [] = []
+lengths (row ∷ rows) = len row ∷ lengths rows
+
+-- ---- the rows
+-- what the topology gives, at COMF 10,000,000
+unfoldable pub verdict : List Item → ℕ
+verdict all = topologyOf 10000000 all .code
+
+-- "1. Connected node: fields 3, 9, 9; leader `00067 D     00046   1204`."  "2. Edge, no coordinates: base 49, length 80."  "4. Area 1F 2F 3R closes; 1F 2F 3F
+-- is 19."  "5. A loop edge alone is a ring; two such as exterior are 19."  "9. X = 1,800,000,000 at COMF 10,000,000 passes; one more is 17."
 pub bench-sheet : (
-    row (triangle (along-edge 1 1 ∷ along-edge 1 2 ∷ along-edge 2 3 ∷ []))
-    ∷ row (triangle (along-edge 1 1 ∷ along-edge 1 2 ∷ along-edge 1 3 ∷ []))
-    ∷ row (loops (along-edge 1 1 ∷ []))
-    ∷ row (loops (along-edge 1 1 ∷ along-edge 1 2 ∷ []))
-    ∷ row (isolated 1800000000)
-    ∷ row (isolated 1800000001)
+    lengths (rowsFor 0 heldNode)
+    ∷ take 24 (recordBytes heldNode)
+    ∷ (baseFor (rowsFor 0 heldEdge) ∷ sizeOf heldEdge ∷ [])
+    ∷ (verdict (triangle (along-edge 1 1 ∷ along-edge 1 2 ∷ along-edge 2 3 ∷ [])) ∷ verdict (triangle (along-edge 1 1 ∷ along-edge 1 2 ∷ along-edge 1 3 ∷ [])) ∷ [])
+    ∷ (verdict (loops (along-edge 1 1 ∷ [])) ∷ verdict (loops (along-edge 1 1 ∷ along-edge 1 2 ∷ [])) ∷ [])
+    ∷ (verdict (isolated 1800000000) ∷ verdict (isolated 1800000001) ∷ [])
     ∷ [])
-    ≡ 0 ∷ 19 ∷ 0 ∷ 19 ∷ 0 ∷ 17 ∷ []
-unfolding item node end edge along-edge area triangle loops isolated row
+    ≡ (3 ∷ 9 ∷ 9 ∷ [])
+    ∷ bytes "00067 D     00046   1204"
+    ∷ (49 ∷ 80 ∷ [])
+    ∷ (0 ∷ 19 ∷ [])
+    ∷ (0 ∷ 19 ∷ [])
+    ∷ (0 ∷ 17 ∷ [])
+    ∷ []
+unfolding item node end edge along-edge area triangle loops isolated vector heldNode heldEdge lengths verdict
     numAt bytesOf allOf through within isCollection rankOf nameFrom itemName nameIn foundCode placeFrom placeIn objectIn
     magnitude pairGood coordinatesGood isolatedGood connectedGood endGood addTopi edgeGood classGood vectorGood isNode pointGood oneOrTwo lineGood areaGood
     spatialGood spatialCount featureGood shapeGood shapeCode firstCode namesCode lnamsCode pointerCode
     nodeStep nodeWith nodeOf nodesOf found nodeIn stepOf usageGood along ringsFrom ringsGood ringCode
     itemCode codeAmong faultFrom topologyOf
+    digitsOf fewest fewestFrom rowOf table tagOf asNumber bytes tagBytes bodyOf rowsFor longest farthest rowBytes rowsBytes baseFor leaderOf headOver headBytes recordBytes sizeOf
+    isFeature listPiece listPieces vridBytes vectorPieces featurePieces objectPieces flatten
 bench-sheet = refl

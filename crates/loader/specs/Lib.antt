@@ -1,4 +1,5 @@
 -- The notions of `loader`, in the order in which a reader should meet them.
 pub mod Judge
+pub mod Admit
 pub mod Answer
 pub mod BenchSheet

@@ -2,6 +2,7 @@
 ghost use Prim.Native.Nat.{_*_, _≤_};
 ghost use mathlib.Core.Path.{_≡_};
 ghost use lib.ListN.{length, replicate};
+ghost use Rattle.names.specs.Held.{HeldIn};
 ghost use Rattle.reader.specs.Reader.{Opened, Short};
 ghost use Rattle.loader.specs.Judge.{cellVerdict, judgeChecked, judgeOf};
 use chart::Refusal;
@@ -14,10 +15,12 @@ use reader::front::Front;
 use reader::front::opened;
 use topology::topology_fault;
 
-// Codes 4 to 8, then 17 to 19, of a framed cell of n records.
-fn cell_verdict(cell: &[u8], n: usize, work: &mut [u8]) -> Refusal
+// Codes 4 to 8, then 17 to 19, of a framed cell of n records. One without any has left the words of
+// its items, in held order, in the work area.
+pub fn cell_verdict(cell: &[u8], n: usize, work: &mut [u8]) -> Refusal
     requires { ⌜ Opened (now cell) n (now work) ⌝ }
     ensures { λ r. ⌜ r ≡ cellVerdict (now (cell .entry)) n ⌝ }
+    ensures { λ r. ⌜ (r .code ≡ 0 → HeldIn (now (cell .entry)) n (now (work .exit))) ⌝ }
 {
     let r = cell_fault(cell, n, work);
     let code = r.code;

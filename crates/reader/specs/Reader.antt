@@ -18,7 +18,7 @@ use Rattle.reader.specs.declared.answer.Answer.{Answer}
 use Rattle.reader.specs.declared.front.Front.{Front}
 use Rattle.reader.specs.declared.front.Front.the-variants.{Count, Refused}
 
--- an answer: the code, the file (0 none, 1 cell, 2 update), the record, the number, and the byte of the file
+-- an answer: the code, the file (0 none, 1 cell, 2 update, 3 result), the record, the number, and the byte of the file
 abbrev pub answer : ℕ → ℕ → ℕ → ℕ → ℕ → Answer
 answer code file index number offset = record { code = code; file = file; index = index; number = number; offset = offset }
 

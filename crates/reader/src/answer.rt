@@ -3,7 +3,7 @@ ghost use mathlib.Core.Path.{_≡_};
 ghost use Rattle.reader.specs.Reader.{answer, filed};
 use chart::Refusal;
 
-// The code, the file (0 none, 1 cell, 2 update), the record, the number, and the byte of the file.
+// The code, the file (0 none, 1 cell, 2 update, 3 result), the record, the number, and the byte of the file.
 pub struct Answer {
     pub code: u32,
     pub file: u32,

@@ -139,6 +139,9 @@ module _ {s : List ℕ} {n : ℕ} {work : List ℕ} (readable : Readable false s
     pub held-few : m ≤ 5242880
     held-few = omega (arith, readable-few readable)
 
+    pub held-stays : HeldIn s n next
+    held-stays = record { words = rw (← is) (so .words ∙ rw (← is) at (held .words)) }
+
     pub held-fault : ((i : ℕ) → byteAt s i < 256) → (comf : ℕ) (r : Refusal) → comf ≡ comfAt s
         → r ≡ faultFrom (notedCode comf next m v) 3 (itemsOf s (wordsIn next 0 m)) → r ≡ topologyFault s n
     unfolding topologyFault topologyOf heldItems

@@ -71,10 +71,11 @@ fn items_fault(s: &[u8], comf: u32, work: &[u8], m: usize, v: usize) -> Refusal
 }
 
 // The topology of a cell of n records that is readable, whose words in held order stand in the work
-// area.
+// area, and stay there.
 pub fn topology_fault(s: &[u8], n: usize, work: &mut [u8]) -> Refusal
     requires { ⌜ Readable false (now s) n × DspmThere (now s) × HeldIn (now s) n (now work) × (16 * n ≤ length (now work)) ⌝ }
     ensures { λ r. ⌜ r ≡ topologyFault (now (s .entry)) n ⌝ }
+    ensures { λ _. ⌜ HeldIn (now (s .entry)) n (now (work .exit)) ⌝ }
 {
     let m = n - 3;
     let comf = comf_of(s, n);

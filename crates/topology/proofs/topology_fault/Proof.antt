@@ -2,7 +2,7 @@
 use mathlib.Core.Path.{refl}
 use native.Mathlib.Omega.{arith}
 use Rattle.names.proofs.ReadableLaws.{readable-three}
-use Rattle.topology.proofs.TopologyLaws.{held-order, held-roomy, held-next, held-few, held-fault}
+use Rattle.topology.proofs.TopologyLaws.{held-order, held-roomy, held-next, held-few, held-fault, held-stays}
 use borrow.Author.Needs.{needs}
 use Rattle.topology.proofs.topology_fault.Statement.{statement}
 use Rattle.topology.proofs.topology_fault.Tie as tie
@@ -28,7 +28,7 @@ same-length : tie.Need-same-length
 same-length c = search needs
 
 returns : tie.Need-returns
-returns c = held-fault (c .before .before .before .before .before .before .before .before .before .pre .0) (c .before .before .before .before .before .before .before .before .before .pre .2) refl (search needs) (λ i. omega (arith, c .before .before .before .before .before .before .before .before .shared-slice-known .given i)) _ _ (search needs) (c .items-fault .ensures)
+returns c = (held-fault (c .before .before .before .before .before .before .before .before .before .pre .0) (c .before .before .before .before .before .before .before .before .before .pre .2) refl (search needs) (λ i. omega (arith, c .before .before .before .before .before .before .before .before .shared-slice-known .given i)) _ _ (search needs) (c .items-fault .ensures), search (needs, held-stays))
 
 pub topology-fault-spec : {M : Type 1} → statement M
 topology-fault-spec =

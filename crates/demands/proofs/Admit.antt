@@ -1,0 +1,221 @@
+-- Demand 2 of Admit. `admitted-exactly`: it accepts a cell exactly when the cell is readable, its chart good and the areas suffice. `admit-writes`: it then writes
+-- the chart's held form, and Number says how long that is. `admit-again`: Admit on what it wrote writes the same. Assumes nothing.
+use Prim.Native.Nat.{ℕ, _+_, _*_, _≤_, _<_}
+use mathlib.Core.Bool.{Bool, true, false, cond}
+use mathlib.Core.List.{List, _++_}
+use mathlib.Core.Logic.{⊎-elim}
+use mathlib.Core.Path.{_≡_, refl, sym, ap, _∙_}
+use native.Mathlib.Omega.{arith}
+use lib.ListN.{length, drop}
+use lib.Dec.{eqb, ltb}
+use borrow.Author.Tests.{le-ltb, eq-eqb, ne-eqb, ltb-true, ltb-false, eqb-true, eqb-false}
+use Rattle.octets.proofs.Cases.{true-or-false}
+use Rattle.octets.specs.Number.{byteAt}
+use Rattle.iso8211.specs.File.{frameOf, recordAt}
+use Rattle.iso8211.specs.declared.file.Framed.{Framed}
+use Rattle.iso8211.specs.declared.file.Framed.the-variants.{Records, Broken}
+use Rattle.chart.specs.declared.read.Refusal.{Refusal}
+use Rattle.reader.specs.Reader.{answer, filed, firstRefusal, framedFront, frontOf, cellFault, workAnswer}
+use Rattle.reader.specs.declared.answer.Answer.{Answer}
+use Rattle.reader.specs.declared.front.Front.{Front}
+use Rattle.reader.specs.declared.front.Front.the-variants.{Count, Refused}
+use Rattle.topology.specs.Topology.{topologyFault}
+use Rattle.held.specs.Chart.{Chart, chartOf}
+use Rattle.held.specs.Held.{heldOf}
+use Rattle.held.specs.Limits.{fits, Fits, recordCount}
+use Rattle.held.proofs.LimitsLaws.{fits-told, fits-tested}
+use Rattle.held.proofs.CellLaws.{CellTold, cell-told}
+use Rattle.loader.specs.Judge.{cellVerdict}
+use Rattle.loader.specs.Admit.{heldAnswer, written, admitChecked, checkedArea, admitFront, areaFront, admitOf, admitArea}
+use Rattle.loader.proofs.AdmitLaws.{Told, verdict-told, fault-told}
+use Rattle.demands.specs.Verdict.{chartTopology, Good}
+use Rattle.demands.specs.Cell.{Bytes, recordsIn, countIn, Readable, cellChart, Room}
+use Rattle.demands.proofs.TopologyLaws.{cell-topology}
+use Rattle.demands.proofs.ReadsBack.{held-admitted, held-again}
+
+-- ---- out of an answer 0
+held-told : (o : ℕ) (c : Chart) → heldAnswer o c .code ≡ 0 → (fits c ≡ true) × (length (heldOf c) ≤ o) × (heldAnswer o c ≡ answer 0 0 0 (length (heldOf c)) 0)
+unfolding heldAnswer
+held-told o c h =
+    ⊎-elim (λ (f : fits c ≡ true).
+    ⊎-elim (λ (r : ltb o (length (heldOf c)) ≡ true). absurd (let z : _≡_ {A = ℕ} 21 0 = rw (f, r) at h in omega arith))
+    (λ (r : ltb o (length (heldOf c)) ≡ false). (f, ltb-false o (length (heldOf c)) r, rw (f, r))) (true-or-false (ltb o (length (heldOf c)))))
+    (λ (f : fits c ≡ false). absurd (let z : _≡_ {A = ℕ} 20 0 = rw f at h in omega arith)) (true-or-false (fits c))
+
+-- what is known of a framed cell of n records that is accepted
+record Taken (s : List ℕ) (w o n : ℕ) : Type 0 where
+  verdict : cellVerdict s n .code ≡ 0
+  fit : fits (chartOf s n) ≡ true
+  room : 16 * n ≤ w
+  long : length (heldOf (chartOf s n)) ≤ o
+  is : admitChecked s w o n ≡ answer 0 0 0 (length (heldOf (chartOf s n))) 0
+
+checked-told : (s : List ℕ) (w o n : ℕ) → admitChecked s w o n .code ≡ 0 → Taken s w o n
+unfolding admitChecked workAnswer firstRefusal filed
+checked-told s w o n h =
+    ⊎-elim (λ (x : ltb w (16 * n) ≡ true). absurd (let z : _≡_ {A = ℕ} 3 0 = rw x at h in omega arith))
+    (λ (x : ltb w (16 * n) ≡ false).
+    ⊎-elim (λ (y : eqb (cellVerdict s n .code) 0 ≡ true).
+    let t = held-told o (chartOf s n) (rw (x, y) at h) in
+    record { verdict = eqb-true _ _ y; fit = t .0; room = ltb-false w (16 * n) x; long = t .1; is = rw (x, y) (t .2) })
+    (λ (y : eqb (cellVerdict s n .code) 0 ≡ false). absurd (eqb-false (cellVerdict s n .code) 0 y (rw (x, y) at h))) (true-or-false (eqb (cellVerdict s n .code) 0)))
+    (true-or-false (ltb w (16 * n)))
+
+-- of any cell that is accepted
+record Accepted (s : List ℕ) (w o : ℕ) : Type 0 where
+  opened : frontOf 1 s ≡ Count (countIn s)
+  framed : frameOf s ≡ Records (countIn s)
+  short : length s ≤ 5242880
+  taken : Taken s w o (countIn s)
+
+front-told : (s : List ℕ) (w o : ℕ) (f : Framed) → frameOf s ≡ f → length s ≤ 5242880 → frontOf 1 s ≡ framedFront 1 s f → admitFront s w o (framedFront 1 s f) .code ≡ 0
+    → Accepted s w o
+unfolding admitFront framedFront recordsIn
+front-told s w o (Records n) e short is h =
+    let count : countIn s ≡ n = ap recordsIn is in
+    record { opened = rw count is; framed = rw count e; short = short; taken = rw count (checked-told s w o n h) }
+front-told s w o (Broken k) e short is h = absurd (let z : _≡_ {A = ℕ} 2 0 = h in omega arith)
+
+long-none : (s : List ℕ) (w o : ℕ) → admitFront s w o (Refused (answer 1 1 0 0 0)) .code ≡ 0 → ⊥
+unfolding admitFront
+long-none s w o h = let z : _≡_ {A = ℕ} 1 0 = h in omega arith
+
+front-short : (s : List ℕ) → ltb 5242880 (length s) ≡ false → frontOf 1 s ≡ framedFront 1 s (frameOf s)
+unfolding frontOf
+front-short s x = rw x
+
+front-long : (s : List ℕ) → ltb 5242880 (length s) ≡ true → frontOf 1 s ≡ Refused (answer 1 1 0 0 0)
+unfolding frontOf
+front-long s x = rw x
+
+accepted : (s : List ℕ) (w o : ℕ) → admitOf s w o .code ≡ 0 → Accepted s w o
+unfolding admitOf
+accepted s w o h =
+    ⊎-elim (λ (x : ltb 5242880 (length s) ≡ true). absurd (long-none s w o (rw (front-long s x) at h)))
+    (λ (x : ltb 5242880 (length s) ≡ false). front-told s w o (frameOf s) refl (ltb-false 5242880 (length s) x) (front-short s x) (rw (front-short s x) at h))
+    (true-or-false (ltb 5242880 (length s)))
+
+-- ---- the verdict, in two parts
+verdict-parts : (s : List ℕ) (n : ℕ) → cellVerdict s n .code ≡ 0 → (cellFault s n .code ≡ 0) × (topologyFault s n .code ≡ 0)
+unfolding cellVerdict
+verdict-parts s n h =
+    ⊎-elim (λ (e : eqb (cellFault s n .code) 0 ≡ true). (eqb-true _ _ e, rw e at h)) (λ (e : eqb (cellFault s n .code) 0 ≡ false). absurd (eqb-false (cellFault s n .code) 0 e (rw e at h)))
+    (true-or-false (eqb (cellFault s n .code) 0))
+
+verdict-whole : (s : List ℕ) (n : ℕ) → cellFault s n .code ≡ 0 → topologyFault s n .code ≡ 0 → cellVerdict s n .code ≡ 0
+unfolding cellVerdict
+verdict-whole s n a b = rw (eq-eqb (cellFault s n .code) 0 a) b
+
+-- ---- into an answer 0
+admit-opened : (s : List ℕ) (w o n : ℕ) → frontOf 1 s ≡ Count n → admitOf s w o ≡ admitChecked s w o n
+unfolding admitOf admitFront
+admit-opened s w o n e = rw e
+
+checked-done : (s : List ℕ) (w o n : ℕ) → 16 * n ≤ w → cellVerdict s n .code ≡ 0 → fits (chartOf s n) ≡ true → length (heldOf (chartOf s n)) ≤ o
+    → admitChecked s w o n ≡ answer 0 0 0 (length (heldOf (chartOf s n))) 0
+unfolding admitChecked workAnswer firstRefusal heldAnswer
+checked-done s w o n room verdict fit long =
+    rw (le-ltb w (16 * n) room, eq-eqb (cellVerdict s n .code) 0 verdict, fit, le-ltb o (length (heldOf (chartOf s n))) long)
+
+area-done : (s : List ℕ) (w : ℕ) (out : List ℕ) (n : ℕ) → frontOf 1 s ≡ Count n → admitChecked s w (length out) n ≡ answer 0 0 0 (length (heldOf (chartOf s n))) 0
+    → admitArea s w out ≡ heldOf (chartOf s n) ++ drop (length (heldOf (chartOf s n))) out
+unfolding admitArea areaFront checkedArea written
+area-done s w out n e is = rw (e, is)
+
+area-kept : (s : List ℕ) (w : ℕ) (out : List ℕ) (f : Front) → frontOf 1 s ≡ f → (admitOf s w (length out) .code ≡ 0 → ⊥) → admitArea s w out ≡ out
+unfolding admitOf admitFront admitArea areaFront checkedArea
+area-kept s w out (Count n) e ne = rw e (kept (rw e at ne))
+  where
+    kept : (admitChecked s w (length out) n .code ≡ 0 → ⊥) → cond (eqb (admitChecked s w (length out) n .code) 0) (written (chartOf s n) out) out ≡ out
+    kept h = rw (ne-eqb (admitChecked s w (length out) n .code) 0 h)
+area-kept s w out (Refused a) e ne = rw e
+
+-- a file that is opened is framed and not too long
+framed-front : (s : List ℕ) (n : ℕ) (f : Framed) → framedFront 1 s f ≡ Count n → f ≡ Records n
+unfolding framedFront
+framed-front s n (Records k) h = cc
+framed-front s n (Broken k) h = absurd (let z : _≡_ {A = ℕ} 0 1 = cc in omega arith)
+
+front-framed : (s : List ℕ) (n : ℕ) → frontOf 1 s ≡ Count n → (frameOf s ≡ Records n) × (length s ≤ 5242880)
+front-framed s n h =
+    ⊎-elim (λ (x : ltb 5242880 (length s) ≡ true). absurd (let e = sym (front-long s x) ∙ h in let z : _≡_ {A = ℕ} 0 1 = cc in omega arith))
+    (λ (x : ltb 5242880 (length s) ≡ false). (framed-front s n (frameOf s) (sym (front-short s x) ∙ h), ltb-false 5242880 (length s) x)) (true-or-false (ltb 5242880 (length s)))
+
+-- ---- `admitted-exactly`
+pub record Admissible (s : List ℕ) (w o : ℕ) : Type 0 where
+  pub readable : Readable s
+  pub topology : chartTopology (cellChart s) .code ≡ 0
+  pub limits : Fits (cellChart s)
+  pub areas : Room s w o
+
+admitted-only : (s : List ℕ) (w o : ℕ) → Bytes s → admitOf s w o .code ≡ 0 → Admissible s w o
+admitted-only s w o bytes h =
+    let a = accepted s w o h in
+    let t = a .taken in
+    let told = verdict-told s (countIn s) (t .verdict) in
+    let p = verdict-parts s (countIn s) (t .verdict) in
+    record {
+      readable = record { opened = a .opened; fine = p .0 };
+      topology = sym (cell-topology s (countIn s) (a .framed) (a .short) (bytes .small) (told .read) (told .once)) ∙ p .1;
+      limits = fits-told (cellChart s) (t .fit);
+      areas = record { work = t .room; output = t .long };
+    }
+
+admitted-all : (s : List ℕ) (w o : ℕ) → Bytes s → Admissible s w o → admitOf s w o .code ≡ 0
+admitted-all s w o bytes a = ap (λ (x : Answer). x .code) (opened-answer (a .readable .opened) ∙ checked-answer)
+  where
+    n : ℕ
+    n = countIn s
+
+    opened-answer : frontOf 1 s ≡ Count n → admitOf s w o ≡ admitChecked s w o n
+    opened-answer e = admit-opened s w o n e
+
+    framed : (frameOf s ≡ Records n) × (length s ≤ 5242880)
+    framed = front-framed s n (a .readable .opened)
+
+    verdict : cellVerdict s n .code ≡ 0
+    verdict =
+        let t = fault-told s n (a .readable .fine) in
+        verdict-whole s n (a .readable .fine) (cell-topology s n (framed .0) (framed .1) (bytes .small) (t .0) (t .1) ∙ a .topology)
+
+    checked-answer : admitChecked s w o n ≡ answer 0 0 0 (length (heldOf (chartOf s n))) 0
+    checked-answer = checked-done s w o n (a .areas .work) verdict (fits-tested (chartOf s n) (a .limits)) (a .areas .output)
+
+-- "On a readable cell .. accepted exactly when its rules hold and the areas suffice", of Admit
+pub admitted-exactly : (s : List ℕ) (w o : ℕ) → Bytes s → (admitOf s w o .code ≡ 0 → Admissible s w o) × (Admissible s w o → admitOf s w o .code ≡ 0)
+admitted-exactly s w o bytes = (admitted-only s w o bytes, admitted-all s w o bytes)
+
+-- ---- `admit-writes`
+pub record Writes (s : List ℕ) (w : ℕ) (out : List ℕ) : Type 0 where
+  pub answered : admitOf s w (length out) ≡ answer 0 0 0 (length (heldOf (cellChart s))) 0
+  pub fits-in : length (heldOf (cellChart s)) ≤ length out
+  pub area : admitArea s w out ≡ heldOf (cellChart s) ++ drop (length (heldOf (cellChart s))) out
+
+pub admit-writes : (s : List ℕ) (w : ℕ) (out : List ℕ) → admitOf s w (length out) .code ≡ 0 → Writes s w out
+admit-writes s w out h =
+    let a = accepted s w (length out) h in
+    let t = a .taken in
+    record {
+      answered = admit-opened s w (length out) (countIn s) (a .opened) ∙ t .is;
+      fits-in = t .long;
+      area = area-done s w out (countIn s) (a .opened) (t .is);
+    }
+
+-- ---- a refusal leaves the output as it was
+pub admit-refuses : (s : List ℕ) (w : ℕ) (out : List ℕ) → (admitOf s w (length out) .code ≡ 0 → ⊥) → admitArea s w out ≡ out
+admit-refuses s w out ne = area-kept s w out (frontOf 1 s) refl ne
+
+-- ---- Admit on what Admit wrote writes the same
+pub admitted-good : (s : List ℕ) (w o : ℕ) → Bytes s → admitOf s w o .code ≡ 0 → Good (cellChart s)
+admitted-good s w o bytes h =
+    let a = accepted s w o h in
+    let told = verdict-told s (countIn s) (a .taken .verdict) in
+    let m = admitted-only s w o bytes h in
+    record { values = cell-told s (countIn s) (a .framed) (a .short) (bytes .small) (told .read) (told .once) .good; topology = m .topology; limits = m .limits }
+
+pub admit-again : (s : List ℕ) (w o : ℕ) → Bytes s → admitOf s w o .code ≡ 0 → (v : ℕ) (out : List ℕ) → 16 * recordCount (cellChart s) ≤ v
+    → length (heldOf (cellChart s)) ≤ length out
+    → (admitOf (heldOf (cellChart s)) v (length out) ≡ answer 0 0 0 (length (heldOf (cellChart s))) 0) × (admitArea (heldOf (cellChart s)) v out ≡ heldOf (cellChart s) ++ drop (length (heldOf (cellChart s))) out)
+admit-again s w o bytes h v out room long =
+    let good = admitted-good s w o bytes h in
+    (held-admitted (cellChart s) good v out room long, held-again (cellChart s) good v out room long)

@@ -1,0 +1,3 @@
+-- What the demands speak of, in the order in which a reader should meet it.
+pub mod Verdict
+pub mod Cell

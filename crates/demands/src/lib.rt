@@ -1,0 +1,1 @@
+// The owner's demands as theorems about the calls of `loader`: no code.

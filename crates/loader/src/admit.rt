@@ -1,0 +1,77 @@
+// Admit: a cell; writes its held form.
+ghost use Prim.Native.Nat.{_*_, _-_, _≤_};
+ghost use mathlib.Core.Path.{_≡_};
+ghost use lib.ListN.{length, replicate};
+ghost use Rattle.held.specs.Chart.{chartOf};
+ghost use Rattle.reader.specs.Reader.{Short};
+ghost use Rattle.reissue.specs.Plan.{Ready};
+ghost use Rattle.loader.specs.Admit.{heldAnswer, heldArea, admitChecked, checkedArea, admitOf, admitArea};
+use crate::judge::cell_verdict;
+use octets::area::clear;
+use reader::Answer;
+use reader::answer::answered;
+use reader::answer::filed;
+use reader::front::Front;
+use reader::front::opened;
+use reissue::plan::planned;
+use reissue::write::put_chart;
+
+// Codes 20 and 21, then the held form: of a cell of n records that has no refusal before them, its
+// words in held order in the work area.
+fn held_into(cell: &[u8], n: usize, out: &mut [u8], work: &[u8]) -> Answer
+    requires { ⌜ Ready (now cell) n (now work) ⌝ }
+    ensures { λ r. ⌜ r ≡ heldAnswer (length (now (out .entry))) (chartOf (now (cell .entry)) n) ⌝ }
+    ensures { λ _. ⌜ now (out .exit) ≡ heldArea (chartOf (now (cell .entry)) n) (now (out .entry)) ⌝ }
+{
+    if 65536 < n {
+        return answered(20, 3, 0, 0, 0);
+    }
+    let m = n - 3;
+    let plan = planned(cell, m, work);
+    if !plan.fits {
+        return answered(20, 3, 0, 0, 0);
+    }
+    let total = plan.total;
+    if out.len() < total {
+        return answered(21, 0, 0, total, 0);
+    }
+    put_chart(cell, m, work, out);
+    answered(0, 0, 0, total, 0)
+}
+
+// A framed cell of n records: code 3, then 4 to 8, 17 to 19, then these.
+fn admitted(cell: &[u8], n: usize, out: &mut [u8], work: &mut [u8]) -> Answer
+    requires { ⌜ Short (now cell) n ⌝ }
+    ensures { λ r. ⌜ r ≡ admitChecked (now (cell .entry)) (length (now (work .entry))) (length (now (out .entry))) n ⌝ }
+    ensures { λ _. ⌜ now (out .exit) ≡ checkedArea (now (cell .entry)) (length (now (work .entry))) n (now (out .entry)) ⌝ }
+{
+    if work.len() < 16 * n {
+        return answered(3, 0, 0, 16 * n, 0);
+    }
+    let r = cell_verdict(cell, n, work);
+    let code = r.code;
+    if code != 0 {
+        return filed(1, r);
+    }
+    held_into(cell, n, out, work)
+}
+
+// The held form of a cell into the front of the output. The work area is zero afterwards.
+pub fn admit(cell: &[u8], out: &mut [u8], work: &mut [u8]) -> Answer
+    ensures { λ r. ⌜ r ≡ admitOf (now (cell .entry)) (length (now (work .entry))) (length (now (out .entry))) ⌝ }
+    ensures { λ _. ⌜ now (out .exit) ≡ admitArea (now (cell .entry)) (length (now (work .entry))) (now (out .entry)) ⌝ }
+    ensures { λ _. ⌜ now (work .exit) ≡ replicate (length (now (work .entry))) 0 ⌝ }
+{
+    let front = opened(cell, 1);
+    match front {
+        Front::Refused(a) => {
+            clear(work);
+            a
+        }
+        Front::Count(n) => {
+            let a = admitted(cell, n, out, work);
+            clear(work);
+            a
+        }
+    }
+}
