@@ -2,7 +2,7 @@
    all lengths that matter, at odd addresses, whatever the areas and the bytes beside them held before.
    usage: boundary_judge [CELL..]   the cells named are taken along */
 #include "../host/s57loader.h"
-#include "areas.h"
+#include "boundary.h"
 #include "cases_judge.h"
 #include "generate_judge.h"
 #include "tally.h"
@@ -91,83 +91,12 @@ static void take_shortest(struct cells *cells)
 
 static bool take_file(struct cells *cells, const char *path)
 {
-    enum { STEP = 65536 };
     struct judge_case made = {.kind = path};
-    FILE *file = fopen(path, "rb");
-    if (file == NULL)
-        return false;
-    for (size_t got = STEP; got == STEP;) {
-        got = fread(buffer_more(&made.cell, STEP), 1, STEP, file);
-        made.cell.length -= STEP - got;
-    }
-    bool whole = !ferror(file);
-    fclose(file);
+    bool whole = buffer_load(&made.cell, path);
     made.records = reader_frame(made.cell.bytes, made.cell.length).records;
     take(cells, made);
     return whole;
 }
-
-/* ---- areas: bytes of one kind in them, of another beside them, and of any alignment */
-
-struct lent {
-    uint8_t *at;
-    size_t length, shift;
-    uint8_t beside;
-};
-
-static struct lent lend(size_t length, size_t shift, uint8_t fill, uint8_t beside)
-{
-    struct lent lent = {lent_area(shift + length) + shift, length, shift, beside};
-    memset(lent.at - shift - GUARD, beside, GUARD + shift + length + GUARD);
-    memset(lent.at, fill, length);
-    return lent;
-}
-
-static void give_back(const struct lent *lent)
-{
-    lent_free(lent->at - lent->shift);
-}
-
-static bool beside_kept(const struct lent *lent)
-{
-    return all_are(lent->at - lent->shift - GUARD, GUARD + lent->shift, lent->beside) && all_are(lent->at + lent->length, GUARD, lent->beside);
-}
-
-/* Where nothing may be read or written, an address that isn't null and has no memory shows that nothing is. */
-static uint8_t *pointer_to(const struct lent *lent, bool nowhere)
-{
-    return nowhere && lent->length == 0 ? (uint8_t *)(uintptr_t)1 : lent->at;
-}
-
-/* ---- lengths */
-
-enum work { NO_WORK, SHORT, EXACT, ONE_MORE, MANY_MORE, UNCOUNTED, WORKS };
-
-static const char *const work_names[WORKS] = {"no work area",     "work one byte short",      "work just enough",
-                                              "work one byte over", "work 4,096 bytes over", "work by S57_WORK_FOR"};
-
-static size_t work_length(const struct judge_case *made, enum work work)
-{
-    size_t needed = S57_WORK_A_RECORD * made->records;
-    switch (work) {
-    case NO_WORK:
-        return 0;
-    case SHORT:
-        return needed > 0 ? needed - 1 : 0;
-    case EXACT:
-        return needed;
-    case ONE_MORE:
-        return needed + 1;
-    case MANY_MORE:
-        return needed + 4096;
-    default:
-        return S57_WORK_FOR(made->cell.length);
-    }
-}
-
-static const size_t answer_lengths[] = {0, S57_ANSWER - 1, S57_ANSWER, S57_ANSWER + 1};
-
-enum { ANSWERS = sizeof answer_lengths / sizeof answer_lengths[0], ROUNDS = 8 };
 
 /* ---- one call */
 
@@ -182,10 +111,9 @@ struct call {
 
 static void call_open(struct call *call, size_t answer_length)
 {
-    static const uint8_t fills[] = {PATTERN, 0x00, 0xFF, '0', 0x1E};
     const struct judge_case *made = call->made;
-    size_t round = call->round, length = work_length(made, call->work_kind);
-    uint8_t fill = fills[round % sizeof fills], beside = fills[(round + call->work_kind) % sizeof fills];
+    size_t round = call->round, length = work_length(call->work_kind, made->records, made->cell.length);
+    uint8_t fill = fill_of(round), beside = fill_of(round + call->work_kind);
     call->fill = fill;
     call->cell = lend(made->cell.length, round, 0, beside);
     if (made->cell.length > 0)

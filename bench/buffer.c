@@ -47,6 +47,21 @@ void buffer_remove(struct buffer *buffer, size_t at, size_t count)
     buffer->length -= count;
 }
 
+bool buffer_load(struct buffer *buffer, const char *path)
+{
+    enum { STEP = 65536 };
+    FILE *file = fopen(path, "rb");
+    if (file == NULL)
+        return false;
+    for (size_t got = STEP; got == STEP;) {
+        got = fread(buffer_more(buffer, STEP), 1, STEP, file);
+        buffer->length -= STEP - got;
+    }
+    bool whole = !ferror(file);
+    fclose(file);
+    return whole;
+}
+
 void buffer_free(struct buffer *buffer)
 {
     free(buffer->bytes);

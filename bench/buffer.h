@@ -2,6 +2,7 @@
 #ifndef BENCH_BUFFER_H
 #define BENCH_BUFFER_H
 
+#include <stdbool.h>
 #include <stddef.h>
 #include <stdint.h>
 
@@ -22,6 +23,9 @@ void buffer_put(struct buffer *buffer, const void *bytes, size_t count);
 uint8_t *buffer_open(struct buffer *buffer, size_t at, size_t count);
 
 void buffer_remove(struct buffer *buffer, size_t at, size_t count);
+
+/* Appends the bytes of a file; false where it can't be read to its end. */
+bool buffer_load(struct buffer *buffer, const char *path);
 
 void buffer_free(struct buffer *buffer);
 

@@ -15,26 +15,32 @@ strict='-std=c11 -Wall -Wextra -Wpedantic -Werror'
 # machine with the sanitizers.
 programs='
 make_harbour alone
+make_cells alone
+write_held alone
 sanitize_frame alone
 sanitize_read alone
 sanitize_judge alone
+sanitize_admit alone
 compare_listing alone
 compare_frame probe
 compare_read probe
 compare_judge loader
+compare_admit loader
 boundary_judge loader
+boundary_admit loader
 speed_frame probe
 speed_read probe
 speed_judge loader
+speed_admit loader
 '
 
 # What every program may use: the reader, the generator, and what the programs share.
 reader='reader_frame reader_formats reader_table reader_describe reader_layout reader_values reader_names reader_read
-    reader_topology reader_listing'
+    reader_topology reader_listing reader_first reader_held'
 generator='generate_frame generate_broken generate_large generate_formats generate_chart generate_describe generate_scene
     generate_update faults_describe faults_layout faults_values faults_names generate_read generate_damage generate_hostile
-    generate_judge generate_heavy faults_topology generate_listing'
-shared='buffer areas tally speed cases_frame cases_read cases_judge'
+    generate_judge generate_heavy faults_topology generate_listing generate_held generate_admit generate_limits'
+shared='buffer areas boundary tally speed check_held cases_frame cases_read cases_judge cases_admit'
 
 # shellcheck source=compiler.sh
 . "$here/compiler.sh"

@@ -99,6 +99,7 @@ struct scene_style {
 };
 
 struct scene_style scene_style_of(struct random *random);
+struct scene_style larger_style_of(struct random *random); /* lists of two and three digits, and places too */
 struct chart make_cell(const struct scene_style *style, struct random *random);
 
 /* An update that names records of the cell and new ones. It reads well; whether it fits the cell is not its matter. */

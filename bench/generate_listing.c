@@ -15,22 +15,11 @@ static struct listing_case as_listing(const struct judge_case *made)
     return (struct listing_case){.kind = made->kind, .cell = made->cell, .known = made->known, .verdict = made->verdict};
 }
 
-/* Lists of two and three digits, and places too. Now and then a cell passes the limit. */
+/* Now and then a cell passes the limit. */
 static struct listing_case make_larger(struct random *random)
 {
-    struct scene_style style = scene_style_of(random);
-    uint32_t times = random_between(random, 2, 7);
-    size_t records;
-    style.isolated *= times;
-    style.connected *= times;
-    style.edges *= times;
-    style.points *= times;
-    style.lines *= times;
-    style.areas *= times;
-    style.collections *= times;
-    style.most_coordinates = random_between(random, 4, 120);
-    style.most_attributes = random_between(random, 4, 20);
-    style.most_relations = random_between(random, 3, 12);
+    struct scene_style style = larger_style_of(random);
+    size_t records = 0;
     struct chart chart = make_cell(&style, random);
     vary(&chart, random);
     struct listing_case made = {.kind = LARGER, .known = true, .cell = write_file(&chart, false, random, &records)};

@@ -498,3 +498,20 @@ struct scene_style scene_style_of(struct random *random)
     style.collections = random_below(random, 3);
     return style;
 }
+
+struct scene_style larger_style_of(struct random *random)
+{
+    struct scene_style style = scene_style_of(random);
+    uint32_t times = random_between(random, 2, 7);
+    style.isolated *= times;
+    style.connected *= times;
+    style.edges *= times;
+    style.points *= times;
+    style.lines *= times;
+    style.areas *= times;
+    style.collections *= times;
+    style.most_coordinates = random_between(random, 4, 120);
+    style.most_attributes = random_between(random, 4, 20);
+    style.most_relations = random_between(random, 3, 12);
+    return style;
+}

@@ -77,10 +77,12 @@ enum code {
     CODE_SHAPE = 17,
     CODE_POINTER = 18,
     CODE_RING = 19,
+    CODE_SIZE = 20,
+    CODE_ROOM = 21,
 };
 
-/* File: 0 none, 1 cell, 2 update. The number is the bytes of work area needed for 3, else 0. The offset is that of request (ii): where in
-   its file the refusal's first wrong byte stands. */
+/* File: 0 none, 1 cell, 2 update, 3 result. The number is the bytes of work area needed for 3, of output for 21, the bytes written for 0, else 0. The
+   offset is that of request (ii): where in its file the refusal's first wrong byte stands. */
 struct answer {
     uint32_t code, file, record, number, offset;
 };
@@ -93,6 +95,10 @@ struct answer reader_read_both(const uint8_t *cell, size_t cell_length, const ui
 
 /* Judge: codes 1 to 8 for a cell, then 17 to 19, whose record is the place in held order. */
 struct answer reader_judge(const uint8_t *cell, size_t length, size_t work_length);
+
+/* Admit: the codes of Judge, then 20 and 21. Where it gives 0, the held form stands in front of the output, whose other bytes stay; else all of them
+   do. */
+struct answer reader_admit(const uint8_t *cell, size_t length, size_t work_length, uint8_t *out, size_t out_length);
 
 struct buffer;
 

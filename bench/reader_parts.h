@@ -111,4 +111,34 @@ bool counts_agree(const struct reading *reading);
 struct answer read_files(struct reading *cell, struct reading *update, size_t work_length);
 void reading_close(struct reading *reading);
 
+/* Codes 17 to 19 on a cell that read_files found good. */
+struct answer judge_topology(struct reading *cell);
+
+/* ---- records written */
+
+/* No record has more fields when it is written: record 0 has them. */
+enum { MOST_WRITTEN = 16 };
+
+/* What a record's leader and directory say: its fields in order, each with its closing 1E, and then the sizes. */
+struct outline {
+    size_t fields;
+    uint32_t tag[MOST_WRITTEN];
+    size_t length[MOST_WRITTEN];
+    unsigned length_digits, position_digits; /* the fewest that do */
+    size_t base, size;                       /* the base address, the record's length */
+};
+
+void outline_add(struct outline *outline, uint32_t tag, size_t length);
+
+/* Works the sizes out, once all fields are there. */
+void outline_close(struct outline *outline);
+
+/* Writes leader and directory, and returns where the fields go. `middle` are the seven bytes behind the length, `last` the three behind the base
+   address. */
+uint8_t *outline_put(const struct outline *outline, const char *middle, const char *last, uint8_t *to);
+
+/* Writes record 0 of the held form, which has less than FIRST_ROOM bytes, and returns its length. */
+enum { FIRST_ROOM = 2048 };
+size_t first_record(uint8_t *to);
+
 #endif

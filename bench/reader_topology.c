@@ -303,7 +303,7 @@ static enum code judge_item(struct topology *topology, size_t index)
     return class != EDGE || edge_points(topology, index) ? CODE_DONE : CODE_POINTER;
 }
 
-static struct answer judge_topology(struct reading *cell)
+struct answer judge_topology(struct reading *cell)
 {
     struct topology topology;
     struct answer answer = {0};

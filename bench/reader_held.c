@@ -1,0 +1,232 @@
+/* "Held form" and Admit: the re-issue of a cell that Judge finds good. Its size is known before a byte of it is written: one walk over the records in held
+   order adds up what they will have, a second one writes them. */
+#include "reader_parts.h"
+
+#include <string.h>
+
+enum { LEADER = 24, TAG = 4, FIRST_PLACE = 3, MOST_RECORDS = 65536, LONGEST_RECORD = 99999, LONGEST_HELD = 5242880 };
+
+/* ---- leader and directory */
+
+static unsigned digits_of(size_t number)
+{
+    unsigned digits = 1;
+    for (; number >= 10; number /= 10)
+        digits++;
+    return digits;
+}
+
+static uint8_t *put_digits(uint8_t *to, unsigned count, size_t number)
+{
+    for (unsigned i = count; i-- > 0; number /= 10)
+        to[i] = (uint8_t)('0' + number % 10);
+    return to + count;
+}
+
+static uint8_t *put_bytes(uint8_t *to, const void *from, size_t count)
+{
+    memcpy(to, from, count);
+    return to + count;
+}
+
+static uint8_t *put_number(uint8_t *to, unsigned width, uint32_t number)
+{
+    for (unsigned i = 0; i < width; i++)
+        to[i] = (uint8_t)(number >> 8 * i);
+    return to + width;
+}
+
+void outline_add(struct outline *outline, uint32_t tag, size_t length)
+{
+    outline->tag[outline->fields] = tag;
+    outline->length[outline->fields++] = length;
+}
+
+void outline_close(struct outline *outline)
+{
+    size_t longest = 0, area = 0;
+    for (size_t i = 0; i < outline->fields; i++) {
+        longest = outline->length[i] > longest ? outline->length[i] : longest;
+        area += outline->length[i];
+    }
+    outline->length_digits = digits_of(longest);
+    outline->position_digits = digits_of(area - outline->length[outline->fields - 1]);
+    outline->base = LEADER + outline->fields * (TAG + outline->length_digits + outline->position_digits) + 1;
+    outline->size = outline->base + area;
+}
+
+uint8_t *outline_put(const struct outline *outline, const char *middle, const char *last, uint8_t *to)
+{
+    size_t position = 0;
+    to = put_digits(to, 5, outline->size);
+    to = put_bytes(to, middle, 7);
+    to = put_digits(to, 5, outline->base);
+    to = put_bytes(to, last, 3);
+    to = put_digits(to, 1, outline->length_digits);
+    to = put_digits(to, 1, outline->position_digits);
+    to = put_bytes(to, "04", 2);
+    for (size_t i = 0; i < outline->fields; i++) {
+        for (unsigned shift = 32; shift > 0; shift -= 8)
+            *to++ = (uint8_t)(outline->tag[i] >> (shift - 8));
+        to = put_digits(to, outline->length_digits, outline->length[i]);
+        to = put_digits(to, outline->position_digits, position);
+        position += outline->length[i];
+    }
+    *to++ = FIELD_END;
+    return to;
+}
+
+/* ---- DSID: EDTN and UPDN lose their leading zeros, all else stays */
+
+/* Where EDTN begins: behind 7 bytes of numbers, and DSNM's 12 and its 1F. UPDN follows it. */
+enum { EDTN = 7 + 12 + 1 };
+
+/* Of a text of digits. Its last one stays, whatever it is. */
+static size_t leading_zeros(const uint8_t *text)
+{
+    size_t zeros = 0;
+    while (text[zeros] == '0' && text[zeros + 1] != UNIT_END)
+        zeros++;
+    return zeros;
+}
+
+static const uint8_t *text_after(const uint8_t *text)
+{
+    while (*text != UNIT_END)
+        text++;
+    return text + 1;
+}
+
+static size_t zeros_of(const uint8_t *dsid)
+{
+    return leading_zeros(dsid + EDTN) + leading_zeros(text_after(dsid + EDTN));
+}
+
+static uint8_t *put_identification(uint8_t *to, const uint8_t *dsid, size_t length)
+{
+    const uint8_t *edition = dsid + EDTN, *number = text_after(edition), *end = dsid + length;
+    edition += leading_zeros(edition);
+    to = put_bytes(to, dsid, EDTN);
+    to = put_bytes(to, edition, (size_t)(number - edition));
+    number += leading_zeros(number);
+    return put_bytes(to, number, (size_t)(end - number));
+}
+
+/* DSTR, AALL, NALL, and the counts of the records met. */
+static uint8_t *put_structure(uint8_t *to, const struct reading *cell, const uint8_t *dssi)
+{
+    to = put_bytes(to, dssi, 3);
+    for (size_t i = 0; i < HEADS; i++)
+        to = put_number(to, 4, cell->counted[i]);
+    *to++ = FIELD_END;
+    return to;
+}
+
+/* ---- a record */
+
+/* Where in the cell the record begins that gets this place in the held form. */
+static size_t source_of(const struct reading *cell, size_t place)
+{
+    if (place >= FIRST_PLACE)
+        return record_of(cell->names[place - FIRST_PLACE]);
+    size_t start = 0;
+    for (; place > 0; place--)
+        start = reader_record(cell->bytes, start).end;
+    return start;
+}
+
+/* Makes the record of this place the one at hand, and outlines what it will be: fields of one tag, which stand side by side, are joined and keep
+   one 1E. */
+static void outline_record(struct reading *cell, size_t place, struct outline *outline)
+{
+    struct record record = reader_record(cell->bytes, source_of(cell, place));
+    outline->fields = 0;
+    for (size_t i = 0; i < record.entries; i++) {
+        struct field field = reader_field(cell->bytes, &record, i);
+        cell->fields[i] = field;
+        if (i > 0 && field.tag == cell->fields[i - 1].tag)
+            outline->length[outline->fields - 1] += field.length - 1;
+        else
+            outline_add(outline, field.tag, field.length);
+    }
+    cell->field_count = record.entries;
+    if (place == 1)
+        outline->length[1] -= zeros_of(cell->bytes + cell->fields[1].start);
+    outline_close(outline);
+}
+
+/* A field as it stood, without its 1E where the next one goes on with its list. RUIN is 1 in every readable cell. */
+static uint8_t *put_field(uint8_t *to, const struct reading *cell, size_t index)
+{
+    const struct field *field = &cell->fields[index];
+    bool goes_on = index + 1 < cell->field_count && field[1].tag == field->tag;
+    return put_bytes(to, cell->bytes + field->start, field->length - goes_on);
+}
+
+/* The record at hand. Its first field is 0001: the place, and 1E. */
+static uint8_t *put_record(uint8_t *to, const struct reading *cell, size_t place, const struct outline *outline)
+{
+    const struct field *field = cell->fields;
+    to = outline_put(outline, " D     ", "   ", to);
+    to = put_number(to, 2, (uint32_t)place);
+    *to++ = FIELD_END;
+    if (place == 1) {
+        to = put_identification(to, cell->bytes + field[1].start, field[1].length);
+        return put_structure(to, cell, cell->bytes + field[2].start);
+    }
+    for (size_t i = 1; i < cell->field_count; i++)
+        to = put_field(to, cell, i);
+    return to;
+}
+
+/* ---- the whole */
+
+struct sizes {
+    size_t longest, total;
+};
+
+/* Of all records. The longest is never over its limit in Admit: record 0 is short, and no other record grows. Its contents lose zeros and 1Es at most, so
+   its last position stays or falls, and the digits of positions with it. Digits of lengths can grow, by d say, where a list is joined: but then it
+   was over 10^(d - 1) fields, so at least 10^(d - 1) entries go, each of 7 bytes or more and with a 1E, and the 7 entries that stay, or fewer, grow
+   by d bytes each; and 8 * 10^(d - 1) is over 7 * d. (An entry has 7: its tag, a digit, and two since no list begins before position 12.) */
+static struct sizes sizes_of(struct reading *cell, size_t first)
+{
+    struct sizes sizes = {first, first};
+    struct outline outline;
+    for (size_t place = 1; place < cell->records; place++) {
+        outline_record(cell, place, &outline);
+        sizes.longest = outline.size > sizes.longest ? outline.size : sizes.longest;
+        sizes.total += outline.size;
+    }
+    return sizes;
+}
+
+static struct answer hold(struct reading *cell, uint8_t *out, size_t out_length)
+{
+    uint8_t first[FIRST_ROOM];
+    size_t first_length = first_record(first);
+    struct sizes sizes = sizes_of(cell, first_length);
+    struct outline outline;
+    if (sizes.longest > LONGEST_RECORD || cell->records > MOST_RECORDS || sizes.total > LONGEST_HELD)
+        return (struct answer){.code = CODE_SIZE, .file = 3};
+    if (out_length < sizes.total)
+        return (struct answer){.code = CODE_ROOM, .number = (uint32_t)sizes.total};
+    uint8_t *to = put_bytes(out, first, first_length);
+    for (size_t place = 1; place < cell->records; place++) {
+        outline_record(cell, place, &outline);
+        to = put_record(to, cell, place, &outline);
+    }
+    return (struct answer){.number = (uint32_t)sizes.total};
+}
+
+struct answer reader_admit(const uint8_t *cell, size_t length, size_t work_length, uint8_t *out, size_t out_length)
+{
+    struct reading reading = {.bytes = cell, .length = length};
+    struct answer answer = read_files(&reading, NULL, work_length);
+    if (answer.code == CODE_DONE)
+        answer = judge_topology(&reading);
+    if (answer.code == CODE_DONE)
+        answer = hold(&reading, out, out_length);
+    reading_close(&reading);
+    return answer;
+}
