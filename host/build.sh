@@ -1,7 +1,8 @@
 #!/bin/sh
-# Links the example host with the archive of the crate `loader`; `make -C host` makes the archive first.
+# Links the example hosts with the archive of the crate `loader`; `make -C host` makes the archive first.
 # usage: host/build.sh [ARCHIVE]
-# ARCHIVE: default target/staticlib/libloader.a at the repository's top. The program is target/host/judge there; host/judge.sh runs it.
+# ARCHIVE: default target/staticlib/libloader.a at the repository's top. The programs are target/host/judge and target/host/unit there, which host/judge.sh
+# and host/unit.sh run; and for host/tests.sh target/host/unit_faults, a unit that fails where it is told to.
 set -eu
 
 here=$(cd "$(dirname "$0")" && pwd -P)
@@ -10,7 +11,19 @@ archive=${1:-$top/target/staticlib/libloader.a}
 # shellcheck source=../bench/compiler.sh
 . "$top/bench/compiler.sh"
 
+archive=$(cd "$(dirname "$archive")" && pwd -P)/$(basename "$archive")
 mkdir -p "$top/target/host"
+cd "$here"
+
 # shellcheck disable=SC2086
 # (the compiler's words are meant to be split)
-$cc -std=c11 -Wall -Wextra -Wpedantic -Werror -O2 "$here/judge.c" "$archive" -o "$top/target/host/judge"
+program() { # NAME WORDS..
+    name=$1
+    shift
+    $cc -std=c11 -Wall -Wextra -Wpedantic -Werror -O2 "$@" "$archive" -o "$top/target/host/$name"
+}
+
+program judge judge.c common.c
+program unit unit.c keep.c common.c
+program unit_faults unit.c keep.c common.c faults.c \
+    -Wl,--wrap=openat,--wrap=write,--wrap=fsync,--wrap=close,--wrap=renameat,--wrap=unlinkat

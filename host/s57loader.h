@@ -1,5 +1,5 @@
 /* The chart loader, for C and C++. Link with the archive of the crate `loader`, target/staticlib/libloader.a, which `rt staticlib loader` makes: x86-64
-   code, and of the C library it wants memcpy and memset alone. judge.c beside this file is a whole host.
+   code, and of the C library it wants memcpy and memset alone. judge.c beside this file is a host of one page; unit.c is one that keeps a chart.
 
    It allocates nothing, keeps no state between calls, and opens no file: it works in the bytes that the host lends it. So it may be called from
    several threads at once, each with areas of its own; several may judge the same cell's bytes. On the stack it wants about 270 KB, nearly all of it one table
@@ -16,7 +16,7 @@ extern "C" {
 
 /* ---- sizes, in bytes */
 
-#define S57_LONGEST 5242880  /* a cell has at most that many; a longer one is refused with S57_LONG */
+#define S57_LONGEST 5242880  /* a cell has at most that many, a re-issue too; a longer cell is refused with S57_LONG, a longer re-issue with S57_SIZE */
 #define S57_WORK_A_RECORD 16 /* of the work area, for each record of the cell, its first (record 0) counted too */
 #define S57_ANSWER 16        /* of the answer area, exactly */
 
@@ -29,10 +29,10 @@ extern "C" {
 
 /* ---- the answer */
 
-/* The codes that s57_judge gives. They are tried in this order, 5 before 6 record by record, and 17 before 18 before 19 item by item; the first that
-   applies is the answer. docs/CODES.md has sentences for the screen. */
+/* The codes that s57_judge gives, and s57_admit, which alone gives the last two. They are tried in this order, 5 before 6 record by record, and 17 before
+   18 before 19 item by item; the first that applies is the answer. docs/CODES.md has sentences for the screen. */
 enum s57_code {
-    S57_DONE = 0,      /* the cell is good */
+    S57_DONE = 0,      /* the cell is good; s57_admit has written its re-issue, number: the bytes written */
     S57_LONG = 1,      /* it has over S57_LONGEST bytes */
     S57_FRAME = 2,     /* its framing is broken, or it has no bytes; record: the first bad one */
     S57_WORK = 3,      /* the work area is too short: nothing is said of the cell but that it is framed; number: the bytes needed */
@@ -43,13 +43,16 @@ enum s57_code {
     S57_COUNTS = 8,    /* the counts in record 1 differ from the cell's records */
     S57_SHAPE = 17,    /* an item's coordinates or pointers aren't those of its class or primitive; record: its place */
     S57_POINTER = 18,  /* an item points to one that isn't there; record: its place */
-    S57_RING = 19      /* an area's rings don't close or are marked wrongly; record: its place */
+    S57_RING = 19,     /* an area's rings don't close or are marked wrongly; record: its place */
+    S57_SIZE = 20,     /* the re-issue would be over a limit: a record over 99,999 bytes, over 65,536 records, over S57_LONGEST bytes */
+    S57_ROOM = 21      /* the output area is shorter than the re-issue; number: the bytes needed */
 };
 
 /* The file that a refusal is about. */
 enum s57_file {
-    S57_NO_FILE = 0, /* with S57_DONE and S57_WORK */
-    S57_CELL = 1
+    S57_NO_FILE = 0, /* with S57_DONE, S57_WORK and S57_ROOM */
+    S57_CELL = 1,
+    S57_RESULT = 3   /* the re-issue, with S57_SIZE alone; record is 0 */
 };
 
 struct s57_answer {
@@ -57,7 +60,8 @@ struct s57_answer {
     uint32_t file;   /* of enum s57_file */
     uint32_t record; /* from 0, as it stands in the file. With 17 to 19 instead the item's place in held order: vectors of class 110, then 120, then
                         130, then features, each by RCID ascending, the first of all at 3 */
-    uint32_t number; /* with S57_WORK the bytes that the work area must have, else 0 */
+    uint32_t number; /* with S57_WORK the bytes that the work area must have, with S57_ROOM those that the output area must have, with S57_DONE from
+                        s57_admit those of the re-issue, else 0 */
 };
 
 /* Reads an answer area of S57_ANSWER bytes: code, file, record, number, four bytes each, low byte first. */
@@ -74,7 +78,7 @@ static inline struct s57_answer s57_answer_read(const uint8_t *area)
     return answer;
 }
 
-/* ---- the call */
+/* ---- the calls */
 
 /* Judges a cell: any bytes, of any length. Returns the code.
 
@@ -87,6 +91,18 @@ static inline struct s57_answer s57_answer_read(const uint8_t *area)
    the cell; and nobody else writes to any of the three, or reads the areas, until the call returns. No pointer is null, not even one of
    length 0. Nothing is read or written through a pointer of length 0: the tests (bench/boundary_judge.c) lend one to an address that has no memory. */
 uint32_t s57_judge(const uint8_t *cell, size_t cell_len, uint8_t *work, size_t work_len, uint8_t *answer, size_t answer_len);
+
+/* Admits a cell: judges it as s57_judge does, and where that gives 0 writes its re-issue, which is the cell in its one held form, to the front of the
+   output area. Returns the code; number in the answer is the re-issue's length.
+
+   out     suffices with exactly as many bytes as the re-issue has. That may be more than the cell has, but never over S57_LONGEST: with that many
+           S57_ROOM never comes. The bytes behind the re-issue stay as they were, and after any refusal all of them do. What it held before
+           doesn't matter.
+   cell, work, answer  as with s57_judge.
+
+   Admitting a re-issue writes the same bytes again. The host owes what it owes s57_judge, for three areas now: no two of them overlap, and none overlaps
+   the cell. */
+uint32_t s57_admit(const uint8_t *cell, size_t cell_len, uint8_t *out, size_t out_len, uint8_t *work, size_t work_len, uint8_t *answer, size_t answer_len);
 
 #ifdef __cplusplus
 }
