@@ -1,25 +1,21 @@
 -- Items that topology does not tell apart get one verdict; a record's item and its object are such. Assumes nothing.
-use Prim.Native.Nat.{ℕ, zero, suc, _+_, _-_, _*_, _/_, _%_, _≤_, _<_}
-use mathlib.Core.Bool.{Bool, true, false, not, cond, _&&_, _||_}
-use mathlib.Core.List.{List, [], _∷_, _++_}
-use mathlib.Core.Logic.{_⊎_, inl, inr, ⊎-elim}
-use mathlib.Core.Path.{_≡_, refl, sym, ap, _∙_, fun-ext}
-use native.Mathlib.Omega.{arith}
-use lib.ListN.{length}
-use lib.Dec.{eqb, leb}
-use borrow.Author.Tests.{le-leb, lt-leb, eqb-true, eqb-false, eq-eqb, ne-eqb}
-use Rattle.octets.proofs.Cases.{true-or-false, le-or-lt}
-use Rattle.words.specs.Order.{isIn, insert, sorted}
+use Prim.Native.Nat.{ℕ, zero, suc, _+_, _-_}
+use mathlib.Core.Bool.{Bool, true, false, cond}
+use mathlib.Core.List.{List, [], _∷_}
+use mathlib.Core.Logic.{_⊎_, ⊎-elim}
+use mathlib.Core.Path.{_≡_, refl, ap, _∙_, fun-ext}
+use lib.Dec.{eqb}
+use borrow.Author.Tests.{eqb-true, eq-eqb}
+use Rattle.octets.proofs.Cases.{true-or-false}
 use Rattle.table.specs.Table.{rowOf, table, VRPT, SG2D, SG3D, FFPT, FSPT}
 use Rattle.items.specs.Item.{Item, itemAt, itemName}
-use Rattle.items.specs.Identity.{rcnmAt, nameFrom, nameOf, placeOf, wordFor}
-use Rattle.items.specs.Lists.{entriesAt}
+use Rattle.items.specs.Identity.{rcnmAt, placeOf}
 use Rattle.names.specs.Held.{itemsOf, placeFrom, placeIn, objectIn}
 use Rattle.shape.specs.Shape.{coordinatesGood, isolatedGood, connectedGood, edgeGood, classGood, vectorGood, featureGood, shapeGood, shapeCode}
-use Rattle.pointer.specs.Pointer.{firstCode, pointerCode}
+use Rattle.pointer.specs.Pointer.{pointerCode}
 use Rattle.ring.specs.Ring.{nodeOf, nodesOf, nodeIn, ringCode}
 use Rattle.topology.specs.Topology.{itemCode, codeAmong, faultFrom, topologyOf}
-use Rattle.objects.specs.Object.{Object, objectAt, ofFeature, isFeature, listOf}
+use Rattle.objects.specs.Object.{objectAt, ofFeature, isFeature, listOf}
 use Rattle.writing.specs.All.{objectsAt}
 use Rattle.demands.specs.Verdict.{objectItem, objectItems}
 

@@ -1,32 +1,21 @@
 -- "A written re-issue reads back to the same records": `held-back`. What is written for a good chart is readable and means that chart, Judge gives it 0, and
 -- Admit writes the same bytes for it. Assumes nothing.
-use Prim.Native.Nat.{ℕ, _+_, _*_, _≤_, _<_}
-use mathlib.Core.Bool.{Bool, true, false, cond}
+use Prim.Native.Nat.{ℕ, _+_, _*_, _≤_}
 use mathlib.Core.List.{List, _++_}
-use mathlib.Core.Path.{_≡_, refl, sym, ap, _∙_}
-use native.Mathlib.Omega.{arith}
+use mathlib.Core.Path.{_≡_, ap, _∙_}
 use lib.ListN.{length, drop}
-use lib.Dec.{eqb, ltb}
 use borrow.Author.Tests.{le-ltb, eq-eqb}
-use Rattle.iso8211.specs.File.{frameOf}
-use Rattle.iso8211.specs.declared.file.Framed.the-variants.{Records}
-use Rattle.chart.specs.Read.{fine, readFault}
-use Rattle.chart.specs.declared.read.Refusal.{Refusal}
-use Rattle.names.specs.Names.{twiceOf}
-use Rattle.names.specs.Counts.{countsGood}
+use Rattle.chart.specs.Read.{fine}
 use Rattle.reader.specs.Reader.{answer, filed, firstRefusal, framedFront, frontOf, twiceRefusal, countsRefusal, cellFault, workAnswer}
-use Rattle.reader.specs.declared.answer.Answer.{Answer}
-use Rattle.reader.specs.declared.front.Front.{Front}
-use Rattle.reader.specs.declared.front.Front.the-variants.{Count, Refused}
-use Rattle.topology.specs.Topology.{topologyFault}
+use Rattle.reader.specs.declared.front.Front.the-variants.{Count}
 use Rattle.held.specs.Chart.{Chart, chartOf}
 use Rattle.held.specs.Held.{heldOf}
-use Rattle.held.specs.Limits.{fits, Fits, recordCount}
+use Rattle.held.specs.Limits.{recordCount}
 use Rattle.held.proofs.LimitsLaws.{fits-tested}
 use Rattle.held.proofs.ReadsBack.{HeldRead, reads-back}
 use Rattle.loader.specs.Judge.{cellVerdict, judgeChecked, judgeFront, judgeOf}
 use Rattle.loader.specs.Admit.{heldAnswer, written, admitChecked, checkedArea, admitFront, areaFront, admitOf, admitArea}
-use Rattle.demands.specs.Verdict.{chartTopology, Good}
+use Rattle.demands.specs.Verdict.{Good}
 use Rattle.demands.specs.Cell.{recordsIn, countIn, Readable, cellChart}
 use Rattle.demands.proofs.TopologyLaws.{held-topology}
 

@@ -1,6 +1,6 @@
 -- The topology of a file is that of its chart. Assumes nothing.
 use Prim.Native.Nat.{ℕ, _+_, _-_, _≤_, _<_}
-use mathlib.Core.Bool.{true, false}
+use mathlib.Core.Bool.{false}
 use mathlib.Core.List.{List}
 use mathlib.Core.Path.{_≡_, refl, sym, ap, _∙_}
 use native.Mathlib.Omega.{arith}
@@ -15,19 +15,18 @@ use Rattle.chart.specs.Read.{readFault}
 use Rattle.names.specs.Names.{nameWords, twiceOf}
 use Rattle.names.specs.Comf.{comfAt}
 use Rattle.names.specs.Held.{heldItems}
-use Rattle.topology.specs.Topology.{topologyOf, topologyFault}
+use Rattle.topology.specs.Topology.{topologyFault}
 use Rattle.values.proofs.DspmLaws.{dspm-laid}
-use Rattle.objects.specs.Object.{Object}
 use Rattle.objects.proofs.ViewLaws.{piece-number}
 use Rattle.held.specs.Chart.{Chart, objectsFrom, headerOf, chartOf}
 use Rattle.held.specs.Held.{heldOf}
 use Rattle.held.specs.Limits.{Fits, recordCount}
 use Rattle.held.specs.Good.{GoodChart}
 use Rattle.held.proofs.OrderLaws.{Apart, ordered-apart}
-use Rattle.held.proofs.ReadsBack.{HeldRead, reads-back}
-use Rattle.held.proofs.CellLaws.{CellTold, cell-told}
+use Rattle.held.proofs.ReadsBack.{reads-back}
+use Rattle.held.proofs.CellLaws.{cell-told}
 use Rattle.reissue.proofs.WordLaws.{sorted-objects}
-use Rattle.demands.specs.Verdict.{objectItems, chartTopology}
+use Rattle.demands.specs.Verdict.{chartTopology}
 use Rattle.demands.proofs.AlikeLaws.{topology-alike, items-alike}
 
 -- COMF of the file is COMF of its chart

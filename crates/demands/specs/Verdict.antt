@@ -1,5 +1,4 @@
 -- The verdict on a chart: codes 17 to 19 of a value, without a file. Assumes nothing.
-use Prim.Native.Nat.{ℕ}
 use mathlib.Core.List.{List, [], _∷_}
 use mathlib.Core.Path.{_≡_}
 use Rattle.octets.specs.Number.{numAt}

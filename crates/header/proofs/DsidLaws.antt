@@ -1,18 +1,17 @@
 -- A good DSID, written with the fewest digits, is good and says the same. Assumes nothing.
 use Prim.Native.Nat.{ℕ, zero, suc, _+_, _-_, _*_, _/_, _%_, _^_, _≤_, _<_}
-use mathlib.Core.Bool.{Bool, true, false, not, cond, _&&_, _||_}
+use mathlib.Core.Bool.{Bool, true, false, _&&_}
 use mathlib.Core.List.{List, [], _∷_, _++_, append-assoc}
 use mathlib.Core.Logic.{⊎-elim}
 use mathlib.Core.Path.{_≡_, refl, sym, ap, _∙_}
 use native.Mathlib.Nat.{add-zero, add-assoc}
-use native.Mathlib.Numerals.{add-one}
 use native.Mathlib.Omega.{arith}
-use lib.ListN.{length, take, drop, getD, take-append-drop, length-append, length-take, length-drop, List·getD-append}
-use lib.Seq.{getD-take, getD-drop, drop-at, drop-drop, drop-append-le, length-take-le, take-append-seam}
+use lib.ListN.{length, take, drop, take-append-drop, length-append, length-drop, List·getD-append}
+use lib.Seq.{getD-take, getD-drop, drop-at, drop-drop, drop-append-le, length-take-le}
 use lib.Dec.{eqb, leb}
 use borrow.Author.Tests.{eq-eqb, ne-eqb, le-leb, eqb-true, leb-true}
 use Rattle.octets.specs.Number.{byteAt, numAt}
-use Rattle.octets.specs.Digits.{isDigit, digitsFrom, numberAt, digitsOf, fewest}
+use Rattle.octets.specs.Digits.{digitsFrom, numberAt, digitsOf, fewest}
 use Rattle.octets.specs.Area.{Has}
 use Rattle.octets.proofs.Cases.{true-or-false}
 use Rattle.octets.proofs.Tests.{both, all3}
@@ -20,10 +19,10 @@ use Rattle.octets.proofs.AreaLaws.{has-left, has-right, has-at}
 use Rattle.octets.proofs.DigitsLaws.{digits-length, number-read, fewest-least, fewest-some, fewest-most}
 use Rattle.values.specs.Fault.{faultAt}
 use Rattle.values.specs.Fault as fault
-use Rattle.values.specs.Rule.{within, rcidGood, profileOf, digitsWithin}
-use Rattle.values.specs.Text.{untilEnd, textEnd, textGood, textIn}
+use Rattle.values.specs.Rule.{within, rcidGood, digitsWithin}
+use Rattle.values.specs.Text.{untilEnd, textEnd}
 use Rattle.values.specs.Date.{dateGood}
-use Rattle.values.specs.Dsid.{dsnmEnd, edtnEnd, updnEnd, psdnEnd, predEnd, comtEnd, dsidEnds, DsidLaid, Filled, dsidLaid, isCode, codesAt, extensionGood, dsnmGood, edtnGood}
+use Rattle.values.specs.Dsid.{dsnmEnd, edtnEnd, updnEnd, psdnEnd, predEnd, comtEnd, dsidEnds, DsidLaid, dsidLaid, codesAt, dsnmGood, edtnGood}
 use Rattle.values.specs.Dsid.{updnDigits, updnGood, uadtGood, stedGood, predGood, headFault, namesFault, issueFault, productFault, dsidOver, dsidFault}
 use Rattle.values.proofs.DsidLaws.{dsid-laid}
 use Rattle.header.specs.Dsid.{Dsid, shortest, editionIn, numberIn, dsidWith, dsidOf, dsidBytes}

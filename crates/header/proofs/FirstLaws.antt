@@ -1,6 +1,6 @@
 -- Record 0 of the held form, computed with any bytes behind it. Assumes nothing.
 use Prim.Native.Nat.{ℕ, _+_, _≤_}
-use mathlib.Core.Bool.{Bool, true, false, cond, _&&_, _||_}
+use mathlib.Core.Bool.{Bool, true, false, _||_}
 use mathlib.Core.List.{List, [], _∷_, _++_}
 use mathlib.Core.Path.{_≡_, refl, ap}
 use native.Mathlib.Omega.{arith}
@@ -17,7 +17,7 @@ use Rattle.iso8211.specs.Formats.{digitAt, shortFrom, shortAt, isLetter, closed
 use Rattle.iso8211.specs.Formats.{listAt, writtenAt}
 use Rattle.iso8211.specs.Descriptive.{partsOf, partsAt, separatorAt, separatorIn}
 use Rattle.iso8211.specs.Same.{sameList}
-use Rattle.table.specs.Table.{Row, rowOf, table, tagOf, kindOf, among, asNumber}
+use Rattle.table.specs.Table.{rowOf, table, tagOf, kindOf, among, asNumber}
 use Rattle.table.specs.Text.{bytes}
 use Rattle.described.specs.Described.{labelsIn, formatsIn, sameFormats, describes, describedFrom, describedOf}
 use Rattle.records.specs.Written.{First, tagBytes, bodyOf, rowsFor, longest, farthest, rowBytes, rowsBytes, baseFor}

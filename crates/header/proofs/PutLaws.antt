@@ -1,8 +1,7 @@
 -- The code that writes DSID and DSSI: what it finds, its room, and how what its calls wrote joins. Assumes nothing.
 use Prim.Native.Nat.{ℕ, _+_, _-_, _%_, _≤_, _<_}
-use mathlib.Core.Bool.{true, false}
 use mathlib.Core.List.{List, [], _∷_, _++_, append-assoc}
-use mathlib.Core.Path.{_≡_, refl, sym, ap, _∙_}
+use mathlib.Core.Path.{_≡_, sym, ap, _∙_}
 use native.Mathlib.Omega.{arith}
 use lib.ListN.{length, take, drop, length-append, length-drop}
 use lib.Seq.{length-take-le, take-all}
@@ -11,8 +10,8 @@ use Rattle.octets.specs.Digits.{Number, numberAt, digitsOf, fewest}
 use Rattle.octets.specs.Area.{Wrote}
 use Rattle.octets.proofs.AreaLaws.{wrote-join, wrote-as, wrote-length}
 use Rattle.octets.proofs.NumberLaws.{wrote-to}
-use Rattle.octets.proofs.DigitsLaws.{digits-length, fewest-some}
-use Rattle.values.specs.Dsid.{dsnmEnd, edtnEnd, updnEnd, dsidEnds, dsidLaid, dsidFault, edtnGood, updnDigits}
+use Rattle.octets.proofs.DigitsLaws.{digits-length}
+use Rattle.values.specs.Dsid.{dsidEnds}
 use Rattle.values.specs.declared.dsid.Ends.{Ends}
 use Rattle.names.specs.declared.counts.Tally.{Tally}
 use Rattle.header.specs.Dsid.{shortest, editionIn, numberIn, dsidWith, dsidOf, dsidBytes}

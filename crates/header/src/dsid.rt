@@ -5,7 +5,7 @@ ghost use mathlib.Core.List.{[], _∷_, _++_};
 ghost use lib.ListN.{length};
 ghost use Rattle.octets.specs.Area.{Wrote};
 ghost use Rattle.octets.specs.Digits.{fewest};
-ghost use Rattle.header.specs.Dsid.{dsid, shortest, dsidWith, dsidOf, dsidBytes};
+ghost use Rattle.header.specs.Dsid.{shortest, dsidWith, dsidOf, dsidBytes};
 ghost use Rattle.header.specs.Known.{Known, EndsKnown, PartsOf};
 ghost use Rattle.values.specs.Dsid.{dsidEnds};
 use octets::area::copy;

@@ -1,31 +1,30 @@
 -- A readable cell's chart is one that can be held. Assumes nothing.
-use Prim.Native.Nat.{ℕ, zero, suc, _+_, _-_, _*_, _/_, _≤_, _<_}
-use mathlib.Core.Bool.{Bool, true, false, not, cond, _&&_, _||_}
-use mathlib.Core.List.{List, [], _∷_, _++_}
-use mathlib.Core.Logic.{_⊎_, inl, inr, ⊎-elim}
+use Prim.Native.Nat.{ℕ, zero, suc, _+_, _-_, _≤_, _<_}
+use mathlib.Core.Bool.{Bool, true, false, cond, _||_}
+use mathlib.Core.List.{List, [], _∷_}
+use mathlib.Core.Logic.{_⊎_, ⊎-elim}
 use mathlib.Core.Path.{_≡_, refl, sym, ap, _∙_}
-use native.Mathlib.Numerals.{add-one}
 use native.Mathlib.Omega.{arith}
-use lib.ListN.{length, getD}
-use lib.Dec.{eqb, leb, ltb}
-use borrow.Author.Tests.{eq-eqb, ne-eqb, eqb-true, eqb-false, leb-true, ltb-true}
-use Rattle.octets.specs.Number.{byteAt, numAt}
+use lib.ListN.{length}
+use lib.Dec.{eqb}
+use borrow.Author.Tests.{eq-eqb, ne-eqb, eqb-true, leb-true}
+use Rattle.octets.specs.Number.{byteAt}
 use Rattle.octets.proofs.Cases.{true-or-false, le-or-lt}
 use Rattle.octets.proofs.Tests.{both}
 use Rattle.iso8211.specs.Record.{endOf}
-use Rattle.iso8211.specs.Field.{countAt, fieldAt, RecordIn}
+use Rattle.iso8211.specs.Field.{fieldAt, RecordIn}
 use Rattle.iso8211.specs.File.{frameOf, recordAt}
 use Rattle.iso8211.specs.declared.file.Framed.the-variants.{Records}
 use Rattle.iso8211.proofs.Promise.{record-in, at-next, last-ends}
 use Rattle.words.specs.Order.{isIn}
-use Rattle.table.specs.Table.{rowOf, table, kindOf, first, DSID, DSSI, DSPM, VRID, FRID}
+use Rattle.table.specs.Table.{rowOf, table, DSID, DSSI, VRID, FRID}
 use Rattle.values.specs.Fault as fault
 use Rattle.values.specs.Dsid.{dsidLaid, dsidFault}
 use Rattle.values.specs.Dssi.{dssiFault}
 use Rattle.values.specs.Dspm.{dspmLaid, dspmFault}
 use Rattle.layout.specs.Layout.{opens, mayEnd, filled, layoutFault, start}
 use Rattle.layout.specs.Record.{contentAt}
-use Rattle.layout.proofs.KindLaws.{Followed, kind-few, opens-dsid, opens-dspm, opens-item, opens-feature, follows-dsid}
+use Rattle.layout.proofs.KindLaws.{kind-few, opens-dsid, opens-dspm, opens-item, opens-feature, follows-dsid}
 use Rattle.layout.proofs.Promise.{full-dssi}
 use Rattle.chart.specs.Value.{fieldFault, seenBefore, seenAfter, valueFault}
 use Rattle.chart.specs.Read.{refusal, fine, nextStage, isFeature, aallAt, nallAt, passedState, firstState, recordsFault, readFault}
@@ -36,16 +35,16 @@ use Rattle.items.specs.Identity.{nameAt, nameOf, wordFor}
 use Rattle.items.proofs.IdentityLaws.{word-name, num-one}
 use Rattle.names.specs.Names.{firstItem, wordsFrom, nameWords, twiceFrom, twiceOf}
 use Rattle.records.specs.Pieces.{Piece, pieceOf, piecesAt}
-use Rattle.objects.specs.Views.{kindIn, pieceLaid, laidIn, valuedIn}
-use Rattle.objects.specs.Object.{Object, objectAt}
-use Rattle.held.specs.Chart.{Chart, objectName, objectsFrom, headerOf, chartOf}
+use Rattle.objects.specs.Views.{kindIn, laidIn, valuedIn}
+use Rattle.objects.specs.Object.{objectAt}
+use Rattle.held.specs.Chart.{objectName, objectsFrom, headerOf, chartOf}
 use Rattle.held.specs.Good.{Good, GoodChart}
 use Rattle.held.specs.Good.Good.{a-vector, a-feature}
 use Rattle.objects.proofs.ViewLaws.{laid-told, values-told, count-seen, piece-seen, number-seen}
-use Rattle.objects.proofs.JoinLaws.{Step, step}
+use Rattle.objects.proofs.JoinLaws.{step}
 use Rattle.objects.proofs.ReadLaws.{Opened, opened, vector-told, feature-told, none-first, none-at, never}
 use Rattle.header.specs.Known.{Known}
-use Rattle.header.proofs.DsidLaws.{DsidBack, dsid-back, dsid-known}
+use Rattle.header.proofs.DsidLaws.{dsid-back, dsid-known}
 use Rattle.held.proofs.OrderLaws.{namesOf, Apart, order-ordered}
 use Rattle.held.proofs.OrderLaws.Apart.{apart-none, apart-more}
 

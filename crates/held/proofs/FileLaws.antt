@@ -1,31 +1,26 @@
 -- A whole chart, written and read back. Assumes nothing.
-use Prim.Native.Nat.{ℕ, zero, suc, _+_, _-_, _*_, _/_, _%_, _^_, _≤_, _<_}
-use mathlib.Core.Bool.{Bool, true, false, not, cond, _&&_, _||_}
-use mathlib.Core.List.{List, [], _∷_, _++_}
-use mathlib.Core.Logic.{_⊎_, inl, inr, ⊎-elim}
-use mathlib.Core.Path.{_≡_, refl, sym, ap, _∙_}
-use native.Mathlib.Nat.{add-zero}
+use Prim.Native.Nat.{ℕ, zero, suc, _+_, _-_, _≤_, _<_}
+use mathlib.Core.Bool.{Bool, true, false, cond, _||_}
+use mathlib.Core.List.{List, [], _∷_}
+use mathlib.Core.Logic.{inl, inr}
+use mathlib.Core.Path.{_≡_, refl, _∙_}
 use native.Mathlib.Omega.{arith}
-use lib.ListN.{length, getD}
-use lib.Dec.{eqb, leb, ltb}
-use borrow.Author.Tests.{eq-eqb, ne-eqb, eqb-true, le-leb, le-ltb}
-use Rattle.octets.specs.Number.{byteAt, numAt, bytesOf}
-use Rattle.octets.proofs.NumberLaws.{bytes-length}
+use lib.ListN.{length}
+use lib.Dec.{eqb, ltb}
+use borrow.Author.Tests.{eq-eqb, ne-eqb}
 use Rattle.iso8211.specs.Record.{endOf}
-use Rattle.iso8211.specs.Field.{fieldAt}
-use Rattle.iso8211.specs.File.{recordAt}
-use Rattle.table.specs.Table.{rowOf, table, tagOf, kindOf, among, asNumber, first, VRID, FRID}
+use Rattle.table.specs.Table.{rowOf, table, tagOf, kindOf, among, asNumber, first}
 use Rattle.table.specs.Text.{bytes}
 use Rattle.values.specs.Vrid.{isVector}
-use Rattle.layout.specs.Layout.{layoutFault, start}
+use Rattle.layout.specs.Layout.{layoutFault}
 use Rattle.chart.specs.Value.{valueFault}
-use Rattle.chart.specs.Read.{refusal, fine, nextStage, isFeature, passedState, firstState, recordsFault}
+use Rattle.chart.specs.Read.{fine, nextStage, isFeature, passedState, recordsFault}
 use Rattle.chart.specs.declared.read.State.{State}
 use Rattle.items.specs.Identity.{rankOf, nameFrom}
-use Rattle.records.specs.Pieces.{Piece, piecesAt}
-use Rattle.records.proofs.WrittenLaws.{RecordRead, fields-read, end-read}
+use Rattle.records.specs.Pieces.{piecesAt}
+use Rattle.records.proofs.WrittenLaws.{fields-read}
 use Rattle.records.proofs.FileLaws.{Stand}
-use Rattle.records.proofs.FileLaws.Stand.{stand-none, stand-more}
+use Rattle.records.proofs.FileLaws.Stand.{stand-more}
 use Rattle.objects.specs.Object as objects
 use Rattle.objects.specs.Object.{Object, objectAt, piece, vectorPieces, featurePieces, objectPieces}
 use Rattle.objects.specs.Good.{Vector, Feature}

@@ -1,9 +1,9 @@
 -- The limits as a test and as a proposition are one. Assumes nothing.
-use Prim.Native.Nat.{ℕ, _+_, _≤_, max}
-use mathlib.Core.Bool.{Bool, true, false, _&&_}
+use Prim.Native.Nat.{ℕ, _+_, _≤_}
+use mathlib.Core.Bool.{true, false}
 use mathlib.Core.List.{List, [], _∷_}
 use mathlib.Core.Logic.{⊎-elim}
-use mathlib.Core.Path.{_≡_, refl}
+use mathlib.Core.Path.{_≡_}
 use native.Mathlib.Omega.{arith}
 use lib.ListN.{length}
 use lib.Dec.{leb}
@@ -11,7 +11,7 @@ use borrow.Author.Tests.{le-leb, leb-true}
 use Rattle.octets.proofs.Cases.{true-or-false}
 use Rattle.octets.proofs.Tests.{all3}
 use Rattle.records.specs.Pieces.{Piece}
-use Rattle.records.specs.Written.{sizeOf, AllFit}
+use Rattle.records.specs.Written.{AllFit}
 use Rattle.records.specs.Written.AllFit.{fit-none, fit-more}
 use Rattle.objects.specs.Object.{Object, isFeature, objectPieces, featurePieces, vectorPieces}
 use Rattle.held.specs.Chart.{Chart}

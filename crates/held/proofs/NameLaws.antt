@@ -1,26 +1,26 @@
 -- The names and the counts of a chart that was written: no name twice, and the counts of its objects. Assumes nothing.
-use Prim.Native.Nat.{ℕ, zero, suc, _+_, _-_, _*_, _/_, _≤_, _<_}
-use mathlib.Core.Bool.{Bool, true, false, cond, _&&_, _||_}
-use mathlib.Core.List.{List, [], _∷_, _++_}
-use mathlib.Core.Logic.{_⊎_, inl, inr, ⊎-elim}
-use mathlib.Core.Path.{_≡_, refl, sym, ap, _∙_}
+use Prim.Native.Nat.{ℕ, zero, suc, _+_, _-_, _≤_, _<_}
+use mathlib.Core.Bool.{Bool, true, false}
+use mathlib.Core.List.{List, [], _∷_}
+use mathlib.Core.Logic.{_⊎_, ⊎-elim}
+use mathlib.Core.Path.{_≡_, refl, ap, _∙_}
 use native.Mathlib.Omega.{arith}
 use lib.ListN.{length}
 use lib.Dec.{eqb}
-use borrow.Author.Tests.{eqb-true, eq-eqb}
+use borrow.Author.Tests.{eqb-true}
 use Rattle.octets.proofs.Cases.{true-or-false}
 use Rattle.iso8211.specs.Record.{endOf}
 use Rattle.iso8211.proofs.RecordLaws.{record-framed}
 use Rattle.words.specs.Order.{isIn}
-use Rattle.items.specs.Identity.{rcnmAt, rcidAt, objlAt, nameAt, nameFrom, wordFor, nameOf}
+use Rattle.items.specs.Identity.{rcnmAt, nameAt, wordFor, nameOf}
 use Rattle.items.proofs.IdentityLaws.{word-name}
 use Rattle.names.specs.Names.{wordsFrom, twiceFrom}
 use Rattle.names.specs.Counts as counts
 use Rattle.names.specs.Counts.{countOf}
-use Rattle.records.specs.Pieces.{Piece, piecesAt}
-use Rattle.records.proofs.WrittenLaws.{RecordRead, fields-read}
+use Rattle.records.specs.Pieces.{piecesAt}
+use Rattle.records.proofs.WrittenLaws.{fields-read}
 use Rattle.records.proofs.FileLaws.{Stand}
-use Rattle.records.proofs.FileLaws.Stand.{stand-none, stand-more}
+use Rattle.records.proofs.FileLaws.Stand.{stand-more}
 use Rattle.objects.specs.Object.{Object, objectAt, objectPieces, ofFeature, isFeature}
 use Rattle.held.specs.Chart.{objectName}
 use Rattle.held.specs.Held.{objectsPieces, countIn, ofName, ofClass}

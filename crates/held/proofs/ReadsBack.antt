@@ -1,62 +1,49 @@
 -- The records of DSID and DSPM, written and read back; then the whole chart: what is written for a chart means that chart. Assumes nothing.
-use Prim.Native.Nat.{ℕ, zero, suc, _+_, _-_, _*_, _/_, _^_, _≤_, _<_}
-use mathlib.Core.Bool.{Bool, true, false, not, cond, _&&_, _||_}
-use mathlib.Core.List.{List, [], _∷_, _++_}
+use Prim.Native.Nat.{ℕ, zero, suc, _+_, _-_, _≤_}
+use mathlib.Core.Bool.{Bool, true, false, cond}
+use mathlib.Core.List.{List, [], _∷_}
 use mathlib.Core.Path.{_≡_, refl, sym, ap, _∙_}
-use native.Mathlib.Nat.{add-zero}
 use native.Mathlib.Omega.{arith}
 use lib.ListN.{length, getD}
-use lib.Dec.{eqb, leb, ltb}
-use borrow.Author.Tests.{eq-eqb, le-leb}
-use Rattle.octets.specs.Number.{byteAt, numAt, bytesOf}
-use Rattle.octets.specs.Area.{Has}
-use Rattle.octets.proofs.AreaLaws.{has-left, has-right, has-head, has-tail}
-use Rattle.octets.proofs.NumberLaws.{bytes-length, num-read}
+use borrow.Author.Tests.{eq-eqb}
+use Rattle.octets.specs.Number.{numAt, bytesOf}
 use Rattle.iso8211.specs.Record.{endOf}
-use Rattle.iso8211.specs.Field.{countAt, fieldAt}
+use Rattle.iso8211.specs.Field.{fieldAt}
 use Rattle.iso8211.specs.File.{frameOf, recordAt}
 use Rattle.iso8211.specs.declared.file.Framed.the-variants.{Records}
 use Rattle.iso8211.proofs.RecordLaws.{record-framed}
 use Rattle.table.specs.Table.{rowOf, table, tagOf, kindOf, among, asNumber, first, DSID, DSSI, DSPM}
 use Rattle.table.specs.Text.{bytes}
-use Rattle.values.specs.Fault.{faultAt}
 use Rattle.values.specs.Fault as fault
 use Rattle.values.specs.Class.{isGeo, isMeta, isCollection}
-use Rattle.values.specs.Dsid.{dsidLaid, dsidFault}
-use Rattle.values.specs.Dssi.{noneGood, dssiFault}
-use Rattle.values.specs.Dspm.{dspmLaid, dspmFault}
-use Rattle.layout.specs.Layout.{opens, follows, placed, mayEnd, filled, layoutFault, start}
+use Rattle.layout.specs.Layout.{opens, follows, placed, mayEnd, filled, start}
 use Rattle.layout.specs.Record.{contentAt}
-use Rattle.chart.specs.Value.{isAttributes, fieldFault, seenBefore, seenAfter, valueFault}
+use Rattle.chart.specs.Value.{isAttributes, fieldFault, seenBefore, seenAfter}
 use Rattle.chart.specs.Read.{fine, nextStage, aallAt, nallAt, passedState, firstState, recordsFault, readFault}
-use Rattle.chart.specs.declared.read.State.{State}
 use Rattle.described.specs.Described.{describedOf}
 use Rattle.items.proofs.IdentityLaws.{num-one}
 use Rattle.names.specs.Names.{firstItem, nameWords, twiceOf}
 use Rattle.names.specs.Counts as counts
 use Rattle.names.specs.Counts.{countOf, dssiCount, countsGood}
 use Rattle.records.specs.Pieces.{Piece, pieceOf, piecesAt}
-use Rattle.records.specs.Written.{recordsBytes, AllFit}
-use Rattle.records.proofs.WrittenLaws.{RecordRead, fields-read, end-read}
+use Rattle.records.specs.Written.{recordsBytes}
+use Rattle.records.proofs.WrittenLaws.{RecordRead, fields-read}
 use Rattle.records.proofs.FileLaws.{Stand, file-framed, file-stands}
-use Rattle.records.proofs.FileLaws.Stand.{stand-none, stand-more}
-use Rattle.objects.specs.Views.{kindIn, pieceLaid, laidIn, valuedIn}
+use Rattle.records.proofs.FileLaws.Stand.{stand-more}
+use Rattle.objects.specs.Views.{pieceLaid, laidIn, valuedIn}
 use Rattle.objects.specs.Object.{Object, piece}
-use Rattle.held.specs.Chart.{Header, Chart, headerOf, chartOf, objectsFrom}
+use Rattle.held.specs.Chart.{Chart, headerOf, chartOf, objectsFrom}
 use Rattle.held.specs.Held.{objectsPieces, countIn, ofName, ofClass, tallyIn, dsidPieces, dspmPieces, recordsOf, heldOf}
 use Rattle.held.specs.Limits.{Fits, recordCount}
 use Rattle.held.specs.Good.{GoodChart}
 use Rattle.header.specs.First.{firstRecord}
 use Rattle.header.specs.Dsid.{dsidBytes}
 use Rattle.header.specs.Dssi.{dssiBytes}
-use Rattle.names.specs.declared.counts.Tally.{Tally}
 use Rattle.names.specs.Counts.{AtMost}
 use Rattle.header.proofs.FirstLaws.{first-is, firstMarks, first-described, first-declares}
-use Rattle.header.proofs.DssiLaws.{DssiRead, dssi-length, dssi-read, dssi-fine}
+use Rattle.header.proofs.DssiLaws.{DssiRead, dssi-read, dssi-fine}
 use Rattle.objects.proofs.ViewLaws.{laid-seen, values-seen, piece-seen, number-seen}
-use Rattle.objects.proofs.LaidLaws.{Declared}
-use Rattle.objects.proofs.IdLaws.{has-self}
-use Rattle.held.proofs.FileLaws.{Due, objects-fine, objects-back}
+use Rattle.held.proofs.FileLaws.{objects-fine, objects-back}
 use Rattle.held.proofs.FileLaws.Due.{due-any}
 use Rattle.held.proofs.OrderLaws.{ordered-stays}
 use Rattle.held.proofs.NameLaws.{below-none, objects-once, objects-counted, name-like, class-like}

@@ -1,22 +1,20 @@
 -- Laws of Admit: the codes in document 01's order, and the output. Assumes nothing.
-use Prim.Native.Nat.{ℕ, _+_, _-_, _*_, _≤_, _<_}
-use mathlib.Core.Bool.{Bool, true, false, not, cond, _&&_}
-use mathlib.Core.List.{List, [], _++_}
+use Prim.Native.Nat.{ℕ, _-_, _*_, _≤_, _<_}
+use mathlib.Core.Bool.{true, false, not}
+use mathlib.Core.List.{List, []}
 use mathlib.Core.Logic.{⊎-elim}
-use mathlib.Core.Path.{_≡_, refl, sym, ap, _∙_}
+use mathlib.Core.Path.{_≡_, sym, ap, _∙_}
 use native.Mathlib.Nat.{zero-add}
 use native.Mathlib.Omega.{arith}
 use borrow.Author.Tests.{eq-eqb, ne-eqb, lt-ltb, le-ltb, lt-leb, eqb-true, eqb-false, not-true, not-false}
-use lib.ListN.{length, drop}
-use lib.Dec.{eqb, ltb}
+use lib.ListN.{length}
+use lib.Dec.{eqb}
 use Rattle.octets.specs.Number.{byteAt}
 use Rattle.octets.specs.Area.{Wrote}
 use Rattle.octets.proofs.AreaLaws.{wrote-whole}
 use Rattle.octets.proofs.Cases.{true-or-false}
 use Rattle.words.specs.Words.{wordsIn}
-use Rattle.iso8211.specs.File.{frameOf}
-use Rattle.iso8211.specs.declared.file.Framed.the-variants.{Records}
-use Rattle.chart.specs.Read.{refusal, fine, readFault}
+use Rattle.chart.specs.Read.{readFault}
 use Rattle.chart.specs.declared.read.Refusal.{Refusal}
 use Rattle.names.specs.Names.{twiceOf}
 use Rattle.names.specs.Counts.{countsGood}
@@ -29,7 +27,7 @@ use Rattle.reader.proofs.ReaderLaws.{readable, dssi-read, dspm-read}
 use Rattle.topology.specs.Topology.{topologyFault}
 use Rattle.held.specs.Chart.{Chart, chartOf}
 use Rattle.held.specs.Held.{heldOf}
-use Rattle.held.specs.Limits.{recordCount, longestOf, fits}
+use Rattle.held.specs.Limits.{recordCount, fits}
 use Rattle.reissue.specs.Plan.{chartFrom, Ready, Planned, Writing}
 use Rattle.reissue.specs.declared.plan.Plan.{Plan}
 use Rattle.reissue.proofs.WordLaws.{ready}

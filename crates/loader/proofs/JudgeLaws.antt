@@ -4,7 +4,6 @@ use mathlib.Core.Bool.{false}
 use mathlib.Core.List.{List}
 use mathlib.Core.Path.{_≡_, sym, ap, _∙_}
 use borrow.Author.Tests.{eq-eqb, ne-eqb, lt-ltb, le-ltb}
-use lib.ListN.{length}
 use Rattle.chart.specs.declared.read.Refusal.{Refusal}
 use Rattle.names.specs.Names.{Readable}
 use Rattle.names.specs.Comf.{DspmThere}

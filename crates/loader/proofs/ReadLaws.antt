@@ -3,7 +3,7 @@ use Prim.Native.Nat.{ℕ, zero, suc, _+_, _-_, _*_, _≤_, _<_}
 use mathlib.Core.Bool.{Bool, true, false, cond, _&&_}
 use mathlib.Core.List.{List, [], _∷_, _++_, append-nil}
 use mathlib.Core.Logic.{⊎-elim}
-use mathlib.Core.Path.{_≡_, refl, sym, ap, _∙_}
+use mathlib.Core.Path.{_≡_, refl, sym}
 use native.Mathlib.Omega.{arith}
 use lib.ListN.{length}
 use lib.Dec.{eqb, ltb}
@@ -23,7 +23,7 @@ use Rattle.words.proofs.OrderLaws.{sorted-length}
 use Rattle.described.specs.Described.{describedOf}
 use Rattle.layout.specs.Layout.{layoutFault}
 use Rattle.chart.specs.Value.{valueFault}
-use Rattle.chart.specs.Read.{refusal, fine, passedState, firstState, recordsFault, readFault}
+use Rattle.chart.specs.Read.{refusal, passedState, firstState, recordsFault, readFault}
 use Rattle.chart.specs.declared.read.Refusal.{Refusal}
 use Rattle.chart.specs.declared.read.State.{State}
 use Rattle.items.specs.Identity.{nameOf, placeOf}
@@ -35,7 +35,6 @@ use Rattle.names.specs.Held.{itemsOf, heldItems, placeIn, objectIn}
 use Rattle.names.specs.Comf.{comfAt}
 use Rattle.names.specs.declared.lookup.Found.{Found}
 use Rattle.names.specs.declared.lookup.Found.the-variants.{At, Nothing}
-use Rattle.names.specs.declared.twice.Repeat.{Repeat}
 use Rattle.names.proofs.HeldLaws.{items-length}
 use Rattle.names.proofs.NamesLaws.{names-length}
 use Rattle.table.specs.Table.{VRPT, FFPT, FSPT}
@@ -45,8 +44,6 @@ use Rattle.ring.specs.Ring.{nodeIn, ringsGood, ringCode}
 use Rattle.topology.specs.Topology.{itemCode, codeAmong, faultFrom, topologyOf, topologyFault}
 use Rattle.reader.specs.Reader.{answer, filed, firstRefusal, framedFront, frontOf, twiceRefusal, countsRefusal, cellFault, workAnswer}
 use Rattle.reader.specs.declared.answer.Answer.{Answer}
-use Rattle.reader.specs.declared.front.Front.{Front}
-use Rattle.reader.specs.declared.front.Front.the-variants.{Count, Refused}
 use Rattle.loader.specs.Judge.{cellVerdict, judgeChecked, judgeFront, judgeOf}
 use Rattle.held.specs.Chart.{Chart, chartOf}
 use Rattle.held.specs.Held.{heldOf}

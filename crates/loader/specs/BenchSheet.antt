@@ -1,11 +1,11 @@
 -- Document 01's bench sheet as far as it is proved: one table, computed from the definitions. Assumes nothing.
-use Prim.Native.Nat.{ℕ, _+_, _-_, _*_, _/_, _%_}
-use mathlib.Core.Bool.{cond, _&&_, _||_}
+use Prim.Native.Nat.{ℕ, _+_, _-_}
+use mathlib.Core.Bool.{cond}
 use mathlib.Core.List.{List, [], _∷_, _++_, flatten}
 use mathlib.Core.Path.{_≡_, refl}
 use lib.ListN.{take}
 use lib.Dec.{eqb}
-use Rattle.octets.specs.Number.{byteAt, numAt, bytesOf}
+use Rattle.octets.specs.Number.{numAt, bytesOf}
 use Rattle.entries.specs.Rules.{allOf, through}
 use Rattle.octets.specs.Digits.{digitsOf, fewest, fewestFrom}
 use Rattle.iso8211.specs.Directory.{len}

@@ -1,5 +1,5 @@
 // Admit: a cell; writes its held form.
-ghost use Prim.Native.Nat.{_*_, _-_, _≤_};
+ghost use Prim.Native.Nat.{_*_, _-_};
 ghost use mathlib.Core.Path.{_≡_};
 ghost use lib.ListN.{length, replicate};
 ghost use Rattle.held.specs.Chart.{chartOf};

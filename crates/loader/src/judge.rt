@@ -1,5 +1,5 @@
 // Judge: a cell; answer only.
-ghost use Prim.Native.Nat.{_*_, _≤_};
+ghost use Prim.Native.Nat.{_*_};
 ghost use mathlib.Core.Path.{_≡_};
 ghost use lib.ListN.{length, replicate};
 ghost use Rattle.names.specs.Held.{HeldIn};

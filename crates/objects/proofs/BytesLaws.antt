@@ -1,21 +1,17 @@
 -- What the writer copies: the bytes of a record that was read are those of its object. Assumes nothing.
 use Prim.Native.Nat.{ℕ, zero, suc, _+_, _-_, _*_, _/_, _%_, _≤_, _<_}
-use mathlib.Core.Bool.{Bool, true, false, cond}
-use mathlib.Core.List.{List, [], _∷_, _++_, flatten, append-assoc}
-use mathlib.Core.Path.{_≡_, refl, sym, ap, _∙_}
-use native.Mathlib.Numerals.{add-one}
-use native.Mathlib.Nat.{add-zero}
+use mathlib.Core.Bool.{true}
+use mathlib.Core.List.{List, [], _∷_, _++_, flatten}
+use mathlib.Core.Path.{_≡_, refl, ap, _∙_}
 use native.Mathlib.Omega.{arith}
-use lib.ListN.{length, take, drop, getD, take-append-drop, length-drop}
-use lib.Seq.{drop-cons, drop-drop, take-all, drop-length, length-take-le}
+use lib.ListN.{length, take, drop, take-append-drop}
+use lib.Seq.{drop-cons, drop-drop}
 use Rattle.octets.specs.Number.{byteAt, numAt, bytesOf}
-use Rattle.entries.specs.Entries.{Whole}
 use Rattle.table.specs.Table.{rowOf}
-use Rattle.layout.specs.Layout.{shapeOf}
 use Rattle.items.specs.Lists.{LaidOut, listAt, entriesAt}
 use Rattle.items.proofs.ListsLaws.{list-whole}
 use Rattle.items.proofs.IdentityLaws.{num-one}
-use Rattle.objects.specs.Object.{Object, listOf, vridBytes, fridBytes}
+use Rattle.objects.specs.Object.{Object, listOf, vridBytes}
 
 -- the bytes of a list, as its fields hold them
 pub list-bytes : (s : List ℕ) (at k : ℕ) → LaidOut s at → rowOf k .list ≡ true → flatten (listOf s at k) ≡ listAt s at k

@@ -1,12 +1,11 @@
 -- The identifier fields, written and read back. Assumes nothing.
-use Prim.Native.Nat.{ℕ, zero, suc, _+_, _*_, _^_, _≤_, _<_}
-use mathlib.Core.Bool.{Bool, true, false, cond, _&&_, _||_}
+use Prim.Native.Nat.{ℕ, zero, suc, _+_, _≤_, _<_}
+use mathlib.Core.Bool.{true, false}
 use mathlib.Core.List.{List, [], _∷_, _++_}
-use mathlib.Core.Path.{_≡_, refl, sym, ap, _∙_}
+use mathlib.Core.Path.{_≡_, refl, ap}
 use native.Mathlib.Omega.{arith}
 use lib.ListN.{length}
-use lib.Dec.{eqb, leb, lit<}
-use borrow.Author.Tests.{le-leb, eq-eqb}
+use borrow.Author.Tests.{le-leb}
 use Rattle.octets.specs.Number.{byteAt, numAt, bytesOf}
 use Rattle.octets.specs.Area.{Has}
 use Rattle.octets.proofs.AreaLaws.{has-left, has-right, has-head}
@@ -17,7 +16,6 @@ use Rattle.values.specs.Vrid.{isVector, vridFault}
 use Rattle.values.specs.Frid.{primGood, fridFault}
 use Rattle.values.specs.Class.{objlGood}
 use Rattle.objects.specs.Object.{Object, vridBytes, fridBytes}
-use Rattle.objects.specs.Good.{Vector, Feature}
 
 pub has-self : (xs : List ℕ) → Has xs 0 xs
 has-self xs = record { room = omega arith; byte = λ k h. ap (λ (i : ℕ). byteAt xs i) (omega arith) }

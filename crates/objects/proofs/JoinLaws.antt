@@ -1,19 +1,19 @@
 -- The fields of a record that was read, joined: what they say of each list as a whole. Assumes nothing.
-use Prim.Native.Nat.{ℕ, zero, suc, _+_, _≤_, _<_}
-use mathlib.Core.Bool.{Bool, true, false, not, cond, _&&_, _||_}
-use mathlib.Core.List.{List, [], _∷_, _++_}
-use mathlib.Core.Logic.{_⊎_, inl, inr, ⊎-elim}
-use mathlib.Core.Path.{_≡_, refl, sym, ap, _∙_}
+use Prim.Native.Nat.{ℕ, zero, suc, _≤_}
+use mathlib.Core.Bool.{Bool, true, false, _&&_}
+use mathlib.Core.List.{List, [], _∷_}
+use mathlib.Core.Logic.{_⊎_, ⊎-elim}
+use mathlib.Core.Path.{_≡_, refl, sym, _∙_}
 use native.Mathlib.Omega.{arith}
-use lib.ListN.{length, getD}
-use lib.Dec.{eqb, leb}
-use borrow.Author.Tests.{eq-eqb, ne-eqb, eqb-true, eqb-false}
+use lib.ListN.{getD}
+use lib.Dec.{eqb}
+use borrow.Author.Tests.{eq-eqb, ne-eqb, eqb-true}
 use Rattle.octets.proofs.Cases.{true-or-false, eq-or-ne}
-use Rattle.octets.proofs.Tests.{both, all4}
+use Rattle.octets.proofs.Tests.{both}
 use Rattle.entries.specs.Entries.{entriesOf, Whole}
 use Rattle.entries.specs.Rules.{through}
 use Rattle.entries.proofs.EntriesLaws.{entries-append, entries-nil}
-use Rattle.table.specs.Table.{rowOf, table, kindOf, first, DSID, FRID, FFPT}
+use Rattle.table.specs.Table.{rowOf, table, first, FFPT}
 use Rattle.layout.specs.Layout.{placed, follows, filled, shapeOf, start}
 use Rattle.layout.proofs.KindLaws.{Followed, followed}
 use Rattle.layout.proofs.Promise.{full-list}

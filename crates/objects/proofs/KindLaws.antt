@@ -1,18 +1,15 @@
 -- The kinds of lists, as the held form orders them: each fact computed from the table. Assumes nothing.
-use Prim.Native.Nat.{ℕ, zero, suc, _+_, _≤_, _<_}
-use mathlib.Core.Bool.{Bool, true, false, not, cond, _&&_, _||_}
+use Prim.Native.Nat.{ℕ, zero, suc, _≤_}
+use mathlib.Core.Bool.{Bool, true, false}
 use mathlib.Core.List.{List, [], _∷_}
 use mathlib.Core.Path.{_≡_, refl}
 use native.Mathlib.Omega.{arith}
-use lib.ListN.{length, getD}
-use lib.Dec.{eqb, leb, ltb}
-use Rattle.entries.specs.declared.Shape.{Shape}
-use Rattle.table.specs.Table.{Row, table, rowOf, tagOf, kindOf, among, asNumber, first, DSID, DSSI, DSPM, VRID, ATTV, VRPT, SG2D, SG3D, FRID, FOID, ATTF, NATF, FFPT, FSPT}
+use lib.Dec.{eqb}
+use Rattle.table.specs.Table.{table, rowOf, tagOf, kindOf, among, asNumber, DSID, DSSI, DSPM, VRID, ATTV, VRPT, SG2D, SG3D, FRID, FOID, ATTF, NATF, FFPT, FSPT}
 use Rattle.table.specs.Text.{bytes}
-use Rattle.layout.specs.Layout.{opens, follows, placed, mayEnd, shapeOf}
+use Rattle.layout.specs.Layout.{follows, placed, mayEnd, shapeOf}
 use Rattle.attributes.specs.Attributes.{attribute, pointer}
 use Rattle.chart.specs.Value.{isAttributes}
-use Rattle.objects.specs.Object.{vectorKinds, featureKinds}
 
 -- k is a kind of list
 pub record ListKind (k : ℕ) : Type 0 where

@@ -1,28 +1,27 @@
 -- An object written in the held form is laid out, and its values are good where its entries are. Assumes nothing.
-use Prim.Native.Nat.{ℕ, zero, suc, _+_, _≤_, _<_}
-use mathlib.Core.Bool.{Bool, true, false, not, cond, _&&_, _||_}
+use Prim.Native.Nat.{ℕ, zero, suc, _+_, _≤_}
+use mathlib.Core.Bool.{Bool, true, false, cond, _&&_}
 use mathlib.Core.List.{List, [], _∷_, _++_, flatten}
-use mathlib.Core.Logic.{⊎-elim, _⊎_, inl, inr}
-use mathlib.Core.Path.{_≡_, refl, sym, ap, _∙_}
+use mathlib.Core.Logic.{⊎-elim, _⊎_}
+use mathlib.Core.Path.{_≡_, refl, _∙_}
 use native.Mathlib.Omega.{arith}
 use lib.ListN.{length, getD}
-use lib.Dec.{eqb, leb}
-use borrow.Author.Tests.{eq-eqb, eqb-true}
+use lib.Dec.{eqb}
+use borrow.Author.Tests.{eq-eqb}
 use Rattle.octets.proofs.Cases.{true-or-false}
-use Rattle.octets.proofs.Tests.{both, all3}
-use Rattle.entries.specs.Entries.{entriesOf, Each, Whole, wholeGood}
-use Rattle.entries.specs.declared.Shape.{Shape}
+use Rattle.octets.proofs.Tests.{all3}
+use Rattle.entries.specs.Entries.{Each}
 use Rattle.entries.proofs.EntriesLaws.{cut-joined, joined-whole, whole-told}
-use Rattle.table.specs.Table.{rowOf, tagOf, kindOf, DSID, DSPM, FFPT}
-use Rattle.layout.specs.Layout.{placed, mayEnd, filled, shapeOf}
+use Rattle.table.specs.Table.{rowOf, FFPT}
+use Rattle.layout.specs.Layout.{filled, shapeOf}
 use Rattle.attributes.specs.Attributes.{attribute, pointer, attributesFrom, attributesFault, ffptFrom, ffptFault, labelOf, metLabel, valueGood, rindGood, commentOf}
 use Rattle.words.specs.Order.{isIn}
 use Rattle.values.specs.Text.{textGood}
 use Rattle.entries.specs.Rules.{through}
 use Rattle.chart.specs.Value.{isAttributes, isHigh, fieldFault, seenBefore, seenAfter}
 use Rattle.records.specs.Pieces.{Piece}
-use Rattle.objects.specs.Views.{kindIn, pieceLaid, laidIn, valuedIn, listIn, attributesGood, pointersGood, listGood}
-use Rattle.objects.specs.Object.{Object, piece, listPiece, listPieces}
+use Rattle.objects.specs.Views.{pieceLaid, laidIn, valuedIn, attributesGood, pointersGood, listGood}
+use Rattle.objects.specs.Object.{listPiece, listPieces}
 use Rattle.objects.proofs.KindLaws.{ListKind, Behind, Chain}
 use Rattle.objects.proofs.KindLaws.Chain.{chain-none, chain-more}
 

@@ -1,41 +1,39 @@
 -- A vector or a feature written in the held form: laid out, of good values, and read back. Assumes nothing.
-use Prim.Native.Nat.{ℕ, zero, suc, _+_, _*_, _^_, _≤_, _<_}
-use mathlib.Core.Bool.{Bool, true, false, not, cond, _&&_, _||_}
+use Prim.Native.Nat.{ℕ, zero, suc, _+_, _≤_, _<_}
+use mathlib.Core.Bool.{Bool, true, false, cond, _||_}
 use mathlib.Core.List.{List, [], _∷_, _++_, flatten, append-nil}
 use mathlib.Core.Logic.{_⊎_, inl, inr, ⊎-elim}
 use mathlib.Core.Path.{_≡_, refl, sym, ap, _∙_, fun-ext}
 use native.Mathlib.Nat.{add-zero}
 use native.Mathlib.Omega.{arith}
 use lib.ListN.{length, getD}
-use lib.Dec.{eqb, leb}
-use borrow.Author.Tests.{le-leb, eq-eqb, ne-eqb, eqb-true, eqb-false}
+use lib.Dec.{eqb}
+use borrow.Author.Tests.{eq-eqb, ne-eqb, eqb-true, eqb-false}
 use Rattle.octets.specs.Number.{byteAt, numAt, bytesOf}
-use Rattle.octets.specs.Area.{Has}
 use Rattle.octets.proofs.Cases.{true-or-false}
 use Rattle.octets.proofs.Tests.{both}
 use Rattle.entries.specs.Rules.{allOf}
 use Rattle.octets.proofs.NumberLaws.{bytes-length, num-read}
 use Rattle.iso8211.specs.Field.{fieldAt}
 use Rattle.words.specs.Order.{isIn}
-use Rattle.entries.specs.Entries.{entriesOf, Each}
-use Rattle.entries.proofs.EntriesLaws.{cut-joined, entries-nil}
-use Rattle.table.specs.Table.{Row, table, rowOf, tagOf, kindOf, among, asNumber, first, DSID, DSPM, VRID, ATTV, VRPT, SG2D, SG3D, FRID, FOID, ATTF, NATF, FFPT, FSPT}
+use Rattle.entries.proofs.EntriesLaws.{cut-joined}
+use Rattle.table.specs.Table.{table, rowOf, tagOf, kindOf, among, asNumber, first, VRID, ATTV, VRPT, SG2D, SG3D, FRID, FOID}
 use Rattle.table.specs.Text.{bytes}
 use Rattle.values.specs.Vrid.{isVector, vridFault}
 use Rattle.values.specs.Frid.{fridFault}
-use Rattle.layout.specs.Layout.{opens, follows, placed, mayEnd, filled, shapeOf, start}
+use Rattle.layout.specs.Layout.{opens, follows, placed, filled, start}
 use Rattle.chart.specs.Value.{isAttributes, fieldFault, seenBefore, seenAfter}
-use Rattle.items.specs.Lists.{listAt, entriesAt}
+use Rattle.items.specs.Lists.{entriesAt}
 use Rattle.items.specs.Identity.{idAt, rcnmAt, rcidAt, primAt, objlAt, foidAt, versionAt}
 use Rattle.items.proofs.IdentityLaws.{num-one}
 use Rattle.records.specs.Pieces.{Piece, piecesAt}
-use Rattle.objects.specs.Views.{kindIn, pieceLaid, laidIn, valuedIn, listIn}
+use Rattle.objects.specs.Views.{pieceLaid, laidIn, valuedIn, listIn}
 use Rattle.objects.specs.Object.{Object, isFeature, grupAt, ofFeature, listOf, objectAt, piece, listPiece, listPieces, vectorKinds, featureKinds, vridBytes, fridBytes}
-use Rattle.objects.specs.Object.{vectorPieces, featurePieces, objectPieces}
+use Rattle.objects.specs.Object.{vectorPieces, featurePieces}
 use Rattle.objects.specs.Good.{Lists, Vector, Feature}
-use Rattle.objects.proofs.KindLaws.{ListKind, Behind, Chain, pairs-chain, soundings-chain, feature-chain}
+use Rattle.objects.proofs.KindLaws.{Chain, pairs-chain, soundings-chain, feature-chain}
 use Rattle.objects.proofs.KindLaws.Chain.{chain-none, chain-more}
-use Rattle.objects.proofs.ViewLaws.{list-seen, count-seen, number-seen}
+use Rattle.objects.proofs.ViewLaws.{list-seen, number-seen}
 use Rattle.objects.proofs.LaidLaws.{Declared, laid-lists, valued-lists}
 use Rattle.objects.proofs.IdLaws.{has-self, vrid-long, frid-long, VridRead, FridRead, vrid-read, frid-read, vrid-fine, frid-fine}
 

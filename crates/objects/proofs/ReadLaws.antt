@@ -1,45 +1,43 @@
 -- A vector or a feature that was read from a cell's record is one that can be held. Assumes nothing.
-use Prim.Native.Nat.{ℕ, zero, suc, _+_, _-_, _*_, _^_, _≤_, _<_}
-use mathlib.Core.Bool.{Bool, true, false, not, cond, _&&_, _||_}
-use mathlib.Core.List.{List, [], _∷_, _++_}
+use Prim.Native.Nat.{ℕ, zero, suc, _+_, _-_, _^_, _≤_, _<_}
+use mathlib.Core.Bool.{Bool, true, false, not, _&&_, _||_}
+use mathlib.Core.List.{List, [], _∷_}
 use mathlib.Core.Logic.{_⊎_, inl, inr, ⊎-elim}
 use mathlib.Core.Path.{_≡_, refl, sym, ap, _∙_}
-use native.Mathlib.Nat.{add-zero, pow-suc}
+use native.Mathlib.Nat.{pow-suc}
 use native.Mathlib.Omega.{arith}
 use lib.ListN.{length, getD}
 use lib.Dec.{eqb, leb}
 use borrow.Author.Tests.{eq-eqb, ne-eqb, eqb-true, eqb-false, leb-true}
 use Rattle.octets.specs.Number.{byteAt, numAt}
 use Rattle.octets.proofs.Cases.{true-or-false, eq-or-ne}
-use Rattle.octets.proofs.Tests.{both, all4}
-use Rattle.iso8211.specs.Field.{countAt, fieldAt, RecordIn}
+use Rattle.octets.proofs.Tests.{both}
+use Rattle.iso8211.specs.Field.{fieldAt}
 use Rattle.words.specs.Order.{isIn}
-use Rattle.entries.specs.Entries.{entriesOf, Each}
 use Rattle.entries.specs.Entries.Each.{each-none}
 use Rattle.entries.proofs.EntriesLaws.{each-entries, entries-nil}
-use Rattle.table.specs.Table.{rowOf, table, kindOf, first, VRID, ATTV, VRPT, SG2D, SG3D, FRID, FOID, ATTF, NATF, FFPT, FSPT}
+use Rattle.table.specs.Table.{rowOf, table, first, VRID, ATTV, VRPT, SG2D, SG3D, FRID, FOID, ATTF, NATF, FFPT, FSPT}
 use Rattle.table.proofs.TableLaws.{row-past}
 use Rattle.values.specs.Fault.{faultAt}
 use Rattle.values.specs.Fault as fault
-use Rattle.values.specs.Rule.{within, rcidGood, rverGood, ruinGood}
+use Rattle.values.specs.Rule.{within, rcidGood, rverGood}
 use Rattle.values.specs.Vrid.{isVector, vridFault}
 use Rattle.values.specs.Frid.{primGood, fridFault}
 use Rattle.values.specs.Class.{objlGood}
-use Rattle.layout.specs.Layout.{placed, opens, mayEnd, filled, shapeOf, layoutFault, start}
-use Rattle.layout.proofs.KindLaws.{kind-few, opens-item, opens-feature}
-use Rattle.layout.proofs.Promise.{full-vrid, full-frid, full-foid}
-use Rattle.chart.specs.Value.{isAttributes, fieldFault, seenBefore, seenAfter, valueFault}
+use Rattle.layout.specs.Layout.{placed, opens, mayEnd, filled, shapeOf, start}
+use Rattle.layout.proofs.Promise.{full-vrid, full-frid}
+use Rattle.chart.specs.Value.{isAttributes, fieldFault, seenBefore, seenAfter}
 use Rattle.items.specs.Identity.{idAt, rcnmAt, rcidAt, primAt, objlAt, foidAt, versionAt}
 use Rattle.items.specs.Lists.{listAt, entriesAt}
 use Rattle.items.proofs.IdentityLaws.{num-one}
 use Rattle.records.specs.Pieces.{Piece, piecesAt}
 use Rattle.objects.specs.Views.{kindIn, pieceLaid, laidIn, valuedIn, listIn, listGood, attributesGood, pointersGood}
-use Rattle.objects.specs.Object.{Object, isFeature, grupAt, ofFeature, listOf, objectAt, vectorKinds, featureKinds}
+use Rattle.objects.specs.Object.{isFeature, grupAt, ofFeature, listOf, objectAt, vectorKinds, featureKinds}
 use Rattle.objects.specs.Good.{Lists, Vector, Feature}
 use Rattle.objects.proofs.KindLaws.{ListKind, attv, vrpt, sg2d, sg3d, attf, natf, ffpt, fspt}
-use Rattle.objects.proofs.ViewLaws.{laid-told, values-told, list-seen, count-seen, number-seen}
-use Rattle.objects.proofs.ObjectLaws.{or-cases, id-seen, at-front, class-small, kinds-list}
-use Rattle.objects.proofs.JoinLaws.{Step, step, Reach, absent, list-join}
+use Rattle.objects.proofs.ViewLaws.{list-seen}
+use Rattle.objects.proofs.ObjectLaws.{or-cases, id-seen, at-front, class-small}
+use Rattle.objects.proofs.JoinLaws.{step, absent, list-join}
 
 -- ---- numbers of bytes
 pub num-small : (s : List ℕ) → ((i : ℕ) → byteAt s i < 256) → (p n : ℕ) → numAt s p n < 256 ^ n

@@ -1,21 +1,18 @@
 -- A record's layout, values and lists are those of its list of fields. Assumes nothing.
 use Prim.Native.Nat.{ℕ, zero, suc, _+_, _-_, _≤_, _<_}
-use mathlib.Core.Bool.{Bool, true, false, cond, _&&_}
-use mathlib.Core.List.{List, [], _∷_, _++_}
+use mathlib.Core.Bool.{Bool, true, false}
+use mathlib.Core.List.{List, [], _∷_}
 use mathlib.Core.Logic.{⊎-elim}
 use mathlib.Core.Path.{_≡_, refl, sym, ap, _∙_}
-use native.Mathlib.Nat.{add-zero, add-assoc}
-use native.Mathlib.Numerals.{add-one}
+use native.Mathlib.Nat.{add-zero}
 use native.Mathlib.Omega.{arith}
-use lib.ListN.{length, take, drop, getD, length-take}
-use lib.Seq.{getD-take, getD-drop}
+use lib.ListN.{length, getD, length-take}
 use lib.Dec.{eqb}
-use borrow.Author.Tests.{eq-eqb, ne-eqb, eqb-true, eqb-false}
-use Rattle.octets.specs.Number.{byteAt, numAt}
+use Rattle.octets.specs.Number.{numAt}
 use Rattle.octets.proofs.Cases.{true-or-false}
 use Rattle.octets.proofs.Tests.{both}
 use Rattle.iso8211.specs.Record.{endOf}
-use Rattle.iso8211.specs.Field.{countAt, fieldAt, FramedAt, FieldIn, RecordIn}
+use Rattle.iso8211.specs.Field.{countAt, fieldAt, RecordIn}
 use Rattle.iso8211.specs.declared.field.Field.{Field}
 use Rattle.table.specs.Table.{kindOf}
 use Rattle.layout.specs.Layout.{mayEnd, fieldLaid, laidFrom, layoutFault, start, contentOf}
@@ -23,7 +20,7 @@ use Rattle.attributes.proofs.PartLaws.{part-number}
 use Rattle.chart.specs.Value.{fieldFault, seenBefore, seenAfter, valuesFrom, valueFault}
 use Rattle.items.specs.Lists.{partAt, joinFrom, listAt}
 use Rattle.records.specs.Pieces.{Piece, pieceOf, piecesFrom, piecesAt}
-use Rattle.objects.specs.Views.{kindIn, pieceLaid, laidIn, valuedIn, listIn}
+use Rattle.objects.specs.Views.{pieceLaid, laidIn, valuedIn, listIn}
 
 -- ---- layout
 laid-from : (n : ℕ) (update : Bool) (stage : ℕ) (marks s : List ℕ) (at j prev : ℕ) → laidIn update stage marks prev (piecesFrom n s at j) ≡ true

@@ -1,14 +1,10 @@
 -- A vector or a feature as a value, what a record says of it, and the fields that it has in the held form. Assumes nothing.
-use Prim.Native.Nat.{ℕ, zero, suc, _+_, _≤_, _<_, _^_}
-use mathlib.Core.Bool.{Bool, true, false, cond}
+use Prim.Native.Nat.{ℕ, zero, suc, _+_}
+use mathlib.Core.Bool.{Bool, cond}
 use mathlib.Core.List.{List, [], _∷_, _++_, flatten}
-use mathlib.Core.Path.{_≡_}
 use lib.Dec.{eqb}
-use Rattle.octets.specs.Number.{byteAt, numAt, bytesOf}
-use Rattle.iso8211.specs.Field.{fieldAt}
-use Rattle.entries.specs.Entries.{Each}
+use Rattle.octets.specs.Number.{byteAt, bytesOf}
 use Rattle.table.specs.Table.{rowOf, tagOf, first, VRID, ATTV, VRPT, SG2D, SG3D, FRID, FOID, ATTF, NATF, FFPT, FSPT}
-use Rattle.layout.specs.Layout.{shapeOf}
 use Rattle.items.specs.Identity.{idAt, rcnmAt, rcidAt, primAt, objlAt, foidAt, versionAt}
 use Rattle.items.specs.Lists.{entriesAt}
 use Rattle.records.specs.Pieces.{Piece}

@@ -1,8 +1,8 @@
 -- The code that writes leader and directory: turns of its loops, and how what its calls wrote joins. Assumes nothing.
 use Prim.Native.Nat.{ℕ, zero, suc, _+_, _-_, _*_, _/_, _%_, _≤_, _<_, max}
-use mathlib.Core.List.{List, [], _∷_, _++_, append-nil}
+use mathlib.Core.List.{List, [], _∷_, _++_}
 use mathlib.Core.Path.{_≡_, refl, sym, ap, _∙_}
-use native.Mathlib.Nat.{suc-mul, mul-le-mul-right, mul-le-mul}
+use native.Mathlib.Nat.{mul-le-mul-right}
 use native.Mathlib.Numerals.{add-one}
 use native.Mathlib.Omega.{arith}
 use lib.ListN.{length, take, drop, getD, length-append, drop-of-length-le}
@@ -10,11 +10,11 @@ use lib.Seq.{drop-cons, getD-take, length-take-le}
 use Rattle.octets.specs.Number.{bytesOf}
 use Rattle.octets.specs.Digits.{digitsOf, fewest}
 use Rattle.octets.specs.Area.{Wrote, Going}
-use Rattle.octets.proofs.AreaLaws.{wrote-join, wrote-as, wrote-length, going-start, going-step, going-end, going-room}
+use Rattle.octets.proofs.AreaLaws.{wrote-join, wrote-as, going-step, going-end, going-room}
 use Rattle.octets.proofs.DigitsLaws.{digits-length}
-use Rattle.iso8211.specs.Directory.{tag, len, position, rowWidth}
-use Rattle.records.specs.Written.{tagBytes, longest, farthest, lengthSize, positionSize, rowBytes, rowsBytes, baseFor, leaderOf, headOver, headBytes}
-use Rattle.records.proofs.WrittenLaws.{row-length, rows-length, leader-length, head-length}
+use Rattle.iso8211.specs.Directory.{rowWidth}
+use Rattle.records.specs.Written.{tagBytes, longest, farthest, rowBytes, rowsBytes, baseFor, leaderOf, headOver, headBytes}
+use Rattle.records.proofs.WrittenLaws.{row-length, leader-length}
 
 -- ---- where a writer ended, its bytes counted
 pub wrote-by : {a b : List ℕ} {at r : ℕ} {xs : List ℕ} (n : ℕ) → length xs ≡ n → Wrote a at xs b r → r ≡ at + n

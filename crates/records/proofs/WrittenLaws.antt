@@ -1,27 +1,26 @@
 -- What is written as a record is framed, and has the fields that it was written from. Assumes nothing.
-use Prim.Native.Nat.{ℕ, zero, suc, _+_, _-_, _*_, _/_, _%_, _^_, _≤_, _<_, max}
-use mathlib.Core.Bool.{Bool, true, false, cond, _&&_}
-use mathlib.Core.List.{List, [], _∷_, _++_, append-assoc, append-nil}
+use Prim.Native.Nat.{ℕ, zero, suc, _+_, _-_, _*_, _/_, _%_, _^_, _≤_, _<_}
+use mathlib.Core.Bool.{true, false}
+use mathlib.Core.List.{List, [], _∷_, _++_, append-assoc}
 use mathlib.Core.Path.{_≡_, refl, sym, ap, _∙_}
-use native.Mathlib.Nat.{add-zero, add-assoc, suc-mul, mul-le-mul-right, mul-mod-left, mul-div-left, pow-le-pow-right}
-use native.Mathlib.Numerals.{add-one}
+use native.Mathlib.Nat.{suc-mul, mul-le-mul-right, mul-mod-left, mul-div-left}
 use native.Mathlib.Omega.{arith}
 use lib.ListN.{length, take, drop, getD, length-append}
 use lib.Seq.{getD-at}
-use lib.Dec.{leb, eqb, lit<}
+use lib.Dec.{lit<}
 use borrow.Author.Tests.{le-leb, eq-eqb}
 use Rattle.octets.specs.Number.{byteAt}
-use Rattle.octets.specs.Digits.{digitsOf, fewest, numberAt}
+use Rattle.octets.specs.Digits.{digitsOf}
 use Rattle.octets.specs.Area.{Has}
 use Rattle.octets.proofs.AreaLaws.{has-at, has-left, has-right, has-head, has-tail, has-part}
 use Rattle.octets.proofs.DigitsLaws.{digits-length, number-read, fewest-least, fewest-some, fewest-most}
 use Rattle.iso8211.specs.Leader.{sizeAt, baseAt, lengthDigits, positionDigits, kindGood, sizeGood, leaderGood}
-use Rattle.iso8211.specs.Directory.{tagAt, rowAt, rows, tag, len, position, rowWidth}
+use Rattle.iso8211.specs.Directory.{tagAt, rowAt, rows, len, position, rowWidth}
 use Rattle.iso8211.specs.Record.{fieldGood, inRow, bodyGood, recordGood, endOf}
 use Rattle.iso8211.specs.Field.{countAt, directoryAt, fieldAt}
-use Rattle.records.specs.Pieces.{Piece, pieceOf, piecesFrom, piecesAt, recordsFrom}
+use Rattle.records.specs.Pieces.{Piece, pieceOf, piecesFrom, piecesAt}
 use Rattle.records.specs.Written.{tagBytes, pieceLength, bodyOf, rowsFor, longest, farthest, lengthSize, positionSize, rowBytes, rowsBytes, baseFor, leaderOf, headOver}
-use Rattle.records.specs.Written.{headBytes, recordBytes, sizeOf, recordsBytes, Fits, AllFit}
+use Rattle.records.specs.Written.{headBytes, recordBytes, sizeOf, Fits}
 
 -- ---- lengths
 pub rows-count : (fs : List Piece) (due : ℕ) → length (rowsFor due fs) ≡ length fs

@@ -7,7 +7,7 @@ ghost use lib.ListN.{length, take};
 ghost use Rattle.octets.specs.Area.{Wrote};
 ghost use Rattle.octets.specs.Digits.{digitsOf};
 ghost use Rattle.iso8211.specs.Directory.{rowWidth};
-ghost use Rattle.records.specs.Written.{tagBytes, rowBytes, rowsBytes, longest, farthest, lengthSize, positionSize, baseFor, leaderOf, headOver, headBytes};
+ghost use Rattle.records.specs.Written.{tagBytes, rowBytes, rowsBytes, longest, farthest, baseFor, leaderOf, headOver, headBytes};
 use octets::area::copy;
 use octets::digits::fewest_digits;
 use octets::digits::put_digits;

@@ -3,16 +3,14 @@ use Prim.Native.Nat.{ℕ, _+_, _-_, _≤_, _<_}
 use mathlib.Core.List.{List, [], _∷_, _++_, append-assoc}
 use mathlib.Core.Path.{_≡_, refl, sym, ap, _∙_}
 use native.Mathlib.Omega.{arith}
-use lib.ListN.{length, take, drop, length-append, length-take, length-drop}
-use lib.Seq.{length-take-le}
+use lib.ListN.{length, take, drop, length-append, length-take}
 use Rattle.octets.specs.Number.{byteAt, bytesOf}
 use Rattle.octets.specs.Area.{Wrote}
 use Rattle.octets.proofs.AreaLaws.{wrote-join, wrote-as, wrote-length}
 use Rattle.octets.proofs.NumberLaws.{wrote-to}
-use Rattle.iso8211.specs.Record.{endOf}
-use Rattle.iso8211.specs.Field.{countAt, fieldAt, FieldIn, RecordIn}
+use Rattle.iso8211.specs.Field.{countAt, fieldAt, RecordIn}
 use Rattle.iso8211.specs.declared.field.Field.{Field}
-use Rattle.table.specs.Table.{first, DSID, DSSI, DSPM, rowOf, table, tagOf, asNumber}
+use Rattle.table.specs.Table.{rowOf, table, tagOf, asNumber}
 use Rattle.table.specs.Text.{bytes}
 use Rattle.layout.specs.Layout.{contentOf}
 use Rattle.layout.specs.Record.{contentAt}
@@ -20,13 +18,12 @@ use Rattle.chart.specs.Read.{aallAt, nallAt}
 use Rattle.records.specs.Pieces.{Piece}
 use Rattle.records.specs.Written.{bodyOf, rowsFor, baseFor, headBytes, recordBytes, sizeOf}
 use Rattle.records.proofs.WrittenLaws.{record-length}
-use Rattle.objects.specs.Object.{piece}
 use Rattle.names.specs.declared.counts.Tally.{Tally}
 use Rattle.header.specs.Dsid.{dsidOf, dsidBytes}
 use Rattle.header.specs.Dssi.{dssiBytes}
 use Rattle.header.specs.Known.{Known}
 use Rattle.header.proofs.DssiLaws.{dssi-length}
-use Rattle.reissue.specs.Front.{dsidFields, dspmFields, FieldThere, DsidIn, DspmIn, DsidSized}
+use Rattle.reissue.specs.Front.{dsidFields, dspmFields, FieldThere, DsidIn, DsidSized}
 
 -- ---- fields that are there
 pub field-there : {s : List ℕ} {at j : ℕ} {f : Field} → RecordIn s at → j < countAt s at → f ≡ fieldAt s at j → FieldThere s at j f

@@ -1,6 +1,6 @@
 -- The held form's length and longest record, by the sizes of its parts; its bytes, part by part. Assumes nothing.
-use Prim.Native.Nat.{ℕ, _+_, _≤_, _<_, max}
-use mathlib.Core.Bool.{Bool, true, false}
+use Prim.Native.Nat.{ℕ, _+_, _≤_, max}
+use mathlib.Core.Bool.{Bool}
 use mathlib.Core.List.{List, [], _∷_, _++_, append-assoc}
 use mathlib.Core.Path.{_≡_, refl, sym, ap, _∙_}
 use native.Mathlib.Omega.{arith}
@@ -25,14 +25,13 @@ use Rattle.header.specs.Dsid.{dsidOf, dsidBytes}
 use Rattle.header.specs.Dssi.{dssiBytes}
 use Rattle.header.proofs.FirstLaws.{first-length}
 use Rattle.header.proofs.DssiLaws.{dssi-length}
-use Rattle.held.specs.Chart.{Chart, headerOf}
+use Rattle.held.specs.Chart.{headerOf}
 use Rattle.held.specs.Held.{tallyIn, dsidPieces, dspmPieces, objectsPieces, recordsOf, heldOf}
 use Rattle.held.specs.Limits.{longestOf, fits}
 use Rattle.writing.specs.All.{objectsAt, writtenFrom, mostOf, AllSized}
 use Rattle.writing.specs.declared.all.Sizes.{Sizes}
 use Rattle.reissue.specs.Front.{dsidFields, dspmFields, DsidIn, DspmIn, DsidSized}
 use Rattle.reissue.specs.Plan.{chartFrom, Writing, withinLimits, Planned, frontBytes}
-use Rattle.reissue.specs.declared.plan.Plan.{Plan}
 use Rattle.reissue.proofs.TallyLaws.{objects-length}
 
 -- ---- the records of the chart, over the file

@@ -1,6 +1,6 @@
 -- The counts by words are those of the objects. Assumes nothing.
-use Prim.Native.Nat.{ℕ, zero, suc, _+_, _*_, _/_, _%_, _≤_, _<_}
-use mathlib.Core.Bool.{Bool, true, false, cond, _&&_}
+use Prim.Native.Nat.{ℕ, zero, suc, _+_, _/_, _≤_, _<_}
+use mathlib.Core.Bool.{true, false}
 use mathlib.Core.List.{List, [], _∷_}
 use mathlib.Core.Logic.{_⊎_, inl, inr, ⊎-elim}
 use mathlib.Core.Path.{_≡_, refl, sym, ap, _∙_}
@@ -12,7 +12,6 @@ use lib.Dec.{eqb}
 use borrow.Author.Tests.{eqb-true, eq-eqb, ne-eqb}
 use Rattle.octets.specs.Number.{byteAt}
 use Rattle.octets.proofs.Cases.{true-or-false}
-use Rattle.values.specs.Class.{isGeo, isMeta, isCollection}
 use Rattle.words.specs.Words.{wordAt, wordsIn}
 use Rattle.words.proofs.WordsLaws.{words-length, words-at}
 use Rattle.items.specs.Identity.{placeOf, rcnmAt, objlAt, rankOf, Featured}

@@ -1,5 +1,5 @@
 -- Words in order are objects in held order: so the words in the work area stand for the cell's chart. Assumes nothing.
-use Prim.Native.Nat.{ℕ, zero, suc, _+_, _-_, _*_, _/_, _%_, _≤_, _<_}
+use Prim.Native.Nat.{ℕ, zero, suc, _+_, _-_, _*_, _≤_, _<_}
 use mathlib.Core.Bool.{Bool, true, false, _||_}
 use mathlib.Core.List.{List, [], _∷_}
 use mathlib.Core.Logic.{⊎-elim}
@@ -29,15 +29,14 @@ use Rattle.names.proofs.HeldLaws.{all-stand}
 use Rattle.names.proofs.NamedLaws.{word-record}
 use Rattle.names.proofs.ReadableLaws.{place-small}
 use Rattle.objects.specs.Object.{Object, objectAt}
-use Rattle.held.specs.Chart.{Chart, objectName, insertObject, heldOrder, objectsFrom, headerOf, chartOf}
+use Rattle.held.specs.Chart.{objectName, insertObject, heldOrder, objectsFrom, headerOf, chartOf}
 use Rattle.held.proofs.OrderLaws.{namesOf, order-names, Apart}
-use Rattle.held.proofs.OrderLaws.Apart.{apart-none, apart-more}
-use Rattle.held.proofs.CellLaws.{name-at, CellTold, cell-told}
+use Rattle.held.proofs.OrderLaws.Apart.{apart-more}
+use Rattle.held.proofs.CellLaws.{name-at, cell-told}
 use Rattle.writing.specs.All.{objectsAt, Words}
 use Rattle.writing.specs.Plain.{Writable}
 use Rattle.writing.proofs.WritableLaws.{cell-writable}
-use Rattle.reissue.specs.Front.{DsidIn, DspmIn}
-use Rattle.reissue.specs.Plan.{chartFrom, Writing, Ready}
+use Rattle.reissue.specs.Plan.{chartFrom, Ready}
 use Rattle.reissue.proofs.TallyLaws.{objects-length}
 
 -- ---- words in order, objects in order

@@ -1,7 +1,7 @@
 // The records of DSID and of DSPM: their sizes and their bytes.
-ghost use Prim.Native.Nat.{ℕ, _+_, _≤_, _<_};
+ghost use Prim.Native.Nat.{_+_, _≤_, _<_};
 ghost use mathlib.Core.Path.{_≡_};
-ghost use mathlib.Core.List.{List, [], _∷_, _++_};
+ghost use mathlib.Core.List.{[], _∷_, _++_};
 ghost use lib.ListN.{length, take};
 ghost use Rattle.octets.specs.Number.{bytesOf};
 ghost use Rattle.octets.specs.Area.{Wrote};

@@ -1,7 +1,6 @@
 // How long the held form is, and whether it keeps its limits: decided before a byte is written.
-ghost use Prim.Native.Nat.{_+_, _≤_, max};
+ghost use Prim.Native.Nat.{_+_};
 ghost use mathlib.Core.Path.{_≡_};
-ghost use lib.ListN.{length};
 ghost use Rattle.words.specs.Words.{wordsIn};
 ghost use Rattle.reissue.specs.Plan.{chartFrom, Writing, withinLimits, Planned};
 use crate::front::dsid_total;

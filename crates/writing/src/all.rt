@@ -1,6 +1,5 @@
 // All items of a cell, in the order of their words: how long their records are, and their bytes.
 ghost use Prim.Native.Nat.{_+_, _≤_, _<_};
-ghost use mathlib.Core.Path.{_≡_};
 ghost use lib.ListN.{length};
 ghost use Rattle.octets.specs.Area.{Wrote};
 ghost use Rattle.words.specs.Words.{wordsIn};

@@ -1,49 +1,36 @@
+-- What stands before EDTN and behind UPDN is lent as it stands. Assumes nothing.
 use Rattle.header.proofs.PutLaws.{dsid-room, dsid-put}
 use borrow.Author.Needs.{needs}
 use Rattle.header.proofs.dsid.put_dsid.Statement.{statement}
 use Rattle.header.proofs.dsid.put_dsid.Tie as tie
-use Rattle.header.proofs.dsid.put_dsid.Reads as reads
-use Rattle.header.proofs.dsid.put_dsid.Lts as lts
-use Rattle.header.proofs.dsid.parts_of.Reads as parts-of-reads
-use Rattle.header.proofs.dsid.put_with.Reads as put-with-reads
 
--- src/dsid.rt:82:9
 parts-of-requires : tie.Need-parts-of-requires
 parts-of-requires c κs = search needs
 
--- src/dsid.rt:86:14
 sub-put-with : tie.Need-sub-put-with
 sub-put-with c = search needs
 
--- src/dsid.rt:86:14
 part-put-with-start : tie.Need-part-put-with-start
 part-put-with-start c = search needs
 
--- src/dsid.rt:86:14
 part-put-with-end : tie.Need-part-put-with-end
 part-put-with-end c = search needs
 
--- src/dsid.rt:86:49
 sub-put-with-2 : tie.Need-sub-put-with-2
 sub-put-with-2 c = search needs
 
--- src/dsid.rt:86:49
 part-put-with-start-2 : tie.Need-part-put-with-start-2
 part-put-with-start-2 c = search needs
 
--- src/dsid.rt:86:49
 part-put-with-end-2 : tie.Need-part-put-with-end-2
 part-put-with-end-2 c = search needs
 
--- src/dsid.rt:86:5
 put-with-requires : tie.Need-put-with-requires
 put-with-requires c κs = search (needs, dsid-room)
 
--- src/dsid.rt:78:1
 same-length : tie.Need-same-length
 same-length c = search needs
 
--- src/dsid.rt:78:1
 returns : tie.Need-returns
 returns c = search (needs, dsid-put)
 

@@ -1,24 +1,18 @@
+-- Two pairs. Assumes nothing.
 use Rattle.header.proofs.PutLaws.{features-put}
 use borrow.Author.Needs.{needs}
 use Rattle.header.proofs.dssi.put_features.Statement.{statement}
 use Rattle.header.proofs.dssi.put_features.Tie as tie
-use Rattle.header.proofs.dssi.put_features.Reads as reads
-use Rattle.header.proofs.dssi.put_features.Lts as lts
-use Rattle.header.proofs.dssi.put_pair.Reads as put-pair-reads
 
--- src/dssi.rt:37:9
 put-pair-requires : tie.Need-put-pair-requires
 put-pair-requires c κs = search needs
 
--- src/dssi.rt:38:5
 put-pair-requires-2 : tie.Need-put-pair-requires-2
 put-pair-requires-2 c κs = search needs
 
--- src/dssi.rt:33:1
 same-length : tie.Need-same-length
 same-length c = search needs
 
--- src/dssi.rt:33:1
 returns : tie.Need-returns
 returns c = (search (needs, features-put), search needs)
 

@@ -1,28 +1,21 @@
+-- Three bytes. Assumes nothing.
 use Rattle.header.proofs.PutLaws.{levels-second, levels-third, levels-put, levels-end}
 use borrow.Author.Needs.{needs}
 use Rattle.header.proofs.dssi.put_levels.Statement.{statement}
 use Rattle.header.proofs.dssi.put_levels.Tie as tie
-use Rattle.header.proofs.dssi.put_levels.Reads as reads
-use Rattle.header.proofs.dssi.put_levels.Lts as lts
-use Rattle.octets.proofs.number.put1.Reads as put1-reads
 
--- src/dssi.rt:18:9
 put1-requires : tie.Need-put1-requires
 put1-requires c κs = search needs
 
--- src/dssi.rt:19:9
 put1-requires-2 : tie.Need-put1-requires-2
 put1-requires-2 c κs = search (needs, levels-second)
 
--- src/dssi.rt:20:5
 put1-requires-3 : tie.Need-put1-requires-3
 put1-requires-3 c κs = search (needs, levels-third)
 
--- src/dssi.rt:14:1
 same-length : tie.Need-same-length
 same-length c = search needs
 
--- src/dssi.rt:14:1
 returns : tie.Need-returns
 returns c = (search (needs, levels-put), search (needs, levels-end))
 

@@ -1,3 +1,4 @@
+-- Refused at once, or admitted to the end; the work area is cleared in both. Assumes nothing.
 use Rattle.reader.proofs.CallLaws.{counted}
 use lib.ListN.{replicate}
 use mathlib.Core.Path.{ap, _∙_}
@@ -6,53 +7,37 @@ use Rattle.loader.proofs.AdmitLaws.{admit-refused, area-refused, admit-
 use borrow.Author.Needs.{needs}
 use Rattle.loader.proofs.admit.admit.Statement.{statement}
 use Rattle.loader.proofs.admit.admit.Tie as tie
-use Rattle.loader.proofs.admit.admit.Reads as reads
-use Rattle.loader.proofs.admit.admit.Lts as lts
-use Rattle.loader.proofs.admit.admitted.Reads as admitted-reads
-use Rattle.octets.proofs.area.clear.Reads as clear-reads
-use Rattle.reader.proofs.front.opened.Reads as opened-reads
 
--- src/admit.rt:65:9
 opened-requires : tie.Need-opened-requires
 opened-requires c κs = search needs
 
--- src/admit.rt:67:24
 enum-known-front : tie.Need-enum-known-front
 enum-known-front c = search needs
 
--- src/admit.rt:68:13
 clear-requires : tie.Need-clear-requires
 clear-requires c κs = search needs
 
--- src/admit.rt:71:22
 enum-known-front-2 : tie.Need-enum-known-front-2
 enum-known-front-2 c = search needs
 
--- src/admit.rt:72:17
 admitted-requires : tie.Need-admitted-requires
 admitted-requires c κs = counted 1 _ _ _ (c .before .before .before .before .before .opened .ensures) (search needs)
 
--- src/admit.rt:73:13
 clear-requires-2 : tie.Need-clear-requires-2
 clear-requires-2 c κs = search needs
 
--- src/admit.rt:60:1
 same-length : tie.Need-same-length
 same-length c = search needs
 
--- src/admit.rt:60:1
 returns : tie.Need-returns
 returns c = (admit-refused _ _ _ (c .before .before .before .before .before .before .before .opened .ensures) _ _ (search needs), (area-refused _ _ _ (c .before .before .before .before .before .before .before .opened .ensures) _ (c .before .before .before .before .before .front .given .0 .0) (search needs), (c .before .before .clear .ensures)))
 
--- src/admit.rt:60:1
 same-length-2 : tie.Need-same-length-2
 same-length-2 c = search needs
 
--- src/admit.rt:60:1
 same-length-3 : tie.Need-same-length-3
 same-length-3 c = search needs
 
--- src/admit.rt:60:1
 returns-2 : tie.Need-returns-2
 returns-2 c = (admit-on _ _ _ (c .before .before .before .before .before .before .before .before .before .before .before .before .before .before .opened .ensures) (c .before .before .before .before .before .before .before .before .before .before .before .before .front2 .given .0 .0) (search needs) _ _ (c .before .before .before .before .before .before .before .before .admitted .ensures .0), (area-on _ _ _ (c .before .before .before .before .before .before .before .before .before .before .before .before .before .before .opened .ensures) (c .before .before .before .before .before .before .before .before .before .before .before .before .front2 .given .0 .0) (search needs) _ _ (c .before .before .before .before .before .before .before .before .admitted .ensures .1), (c .before .before .clear2 .ensures) ∙ ap (λ (k : ℕ). replicate k 0) (c .before .before .before .before .before .before .before .before .admitted .kept .1 .1 .1 .0)))
 

@@ -1,60 +1,44 @@
+-- 20, 21, or the held form, by the plan. Assumes nothing.
 use mathlib.Core.Path.{refl}
 use Rattle.loader.proofs.AdmitLaws.{many-fail, ready-writing, plan-fails, plan-fits, plan-room, plan-put, plan-total, size-answer, size-area, room-answer, room-area}
 use Rattle.loader.proofs.AdmitLaws.{done-answer, done-area}
 use borrow.Author.Needs.{needs}
 use Rattle.loader.proofs.admit.held_into.Statement.{statement}
 use Rattle.loader.proofs.admit.held_into.Tie as tie
-use Rattle.loader.proofs.admit.held_into.Reads as reads
-use Rattle.loader.proofs.admit.held_into.Lts as lts
-use Rattle.reader.proofs.answer.answered.Reads as answered-reads
-use Rattle.reissue.proofs.plan.planned.Reads as planned-reads
-use Rattle.reissue.proofs.write.put_chart.Reads as put-chart-reads
 
--- src/admit.rt:27:9
 answered-requires : tie.Need-answered-requires
 answered-requires c κs = search needs
 
--- src/admit.rt:27:9
 returns : tie.Need-returns
 returns c = (search (needs, size-answer, many-fail), search (needs, size-area, many-fail))
 
--- src/admit.rt:29:13
 sub-m : tie.Need-sub-m
 sub-m c = search needs
 
--- src/admit.rt:30:9
 planned-requires : tie.Need-planned-requires
 planned-requires c κs = search (needs, ready-writing)
 
--- src/admit.rt:32:9
 answered-requires-2 : tie.Need-answered-requires-2
 answered-requires-2 c κs = search needs
 
--- src/admit.rt:32:9
 returns-2 : tie.Need-returns-2
 returns-2 c = (search (needs, size-answer, plan-fails), search (needs, size-area, plan-fails))
 
--- src/admit.rt:36:9
 answered-requires-3 : tie.Need-answered-requires-3
 answered-requires-3 c κs = search needs
 
--- src/admit.rt:36:9
 returns-3 : tie.Need-returns-3
 returns-3 c = (search (needs, room-answer, plan-fits, plan-total), search (needs, room-area, plan-fits, plan-total))
 
--- src/admit.rt:38:5
 put-chart-requires : tie.Need-put-chart-requires
 put-chart-requires c κs = (search (needs, ready-writing), search (needs, plan-room))
 
--- src/admit.rt:39:5
 answered-requires-4 : tie.Need-answered-requires-4
 answered-requires-4 c κs = search needs
 
--- src/admit.rt:21:1
 same-length : tie.Need-same-length
 same-length c = search needs
 
--- src/admit.rt:21:1
 returns-4 : tie.Need-returns-4
 returns-4 c = (search (needs, done-answer, plan-fits, plan-total), done-area _ _ (search (needs, plan-fits)) _ _ (plan-put _ _ _ (c .before .before .before .before .before .before .before .before .before .before .before .before .before .pre) _ _ refl (c .before .before .before .before .before .before .before .before .planned .ensures) (c .before .before .before .put-chart .ensures)))
 

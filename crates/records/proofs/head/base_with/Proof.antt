@@ -1,32 +1,25 @@
+-- At most eight rows of at most 24 bytes. Assumes nothing.
 use native.Mathlib.Omega.{arith}
 use Rattle.records.proofs.HeadLaws.{base-few}
 use borrow.Author.Needs.{needs}
 use Rattle.records.proofs.head.base_with.Statement.{statement}
 use Rattle.records.proofs.head.base_with.Tie as tie
-use Rattle.records.proofs.head.base_with.Reads as reads
-use Rattle.records.proofs.head.base_with.Lts as lts
 
--- src/head.rt:142:16
 add-result : tie.Need-add-result
 add-result c = search needs
 
--- src/head.rt:142:16
 add-result-2 : tie.Need-add-result-2
 add-result-2 c = search needs
 
--- src/head.rt:142:11
 mul-result : tie.Need-mul-result
 mul-result c = omega (arith, base-few (c .args .n) _ _ (c .pre .0) (c .pre .1 .0) (c .pre .1 .1))
 
--- src/head.rt:142:6
 add-result-3 : tie.Need-add-result-3
 add-result-3 c = omega (arith, base-few (c .args .n) _ _ (c .pre .0) (c .pre .1 .0) (c .pre .1 .1))
 
--- src/head.rt:142:5
 cast-result : tie.Need-cast-result
 cast-result c = omega (arith, base-few (c .args .n) _ _ (c .pre .0) (c .pre .1 .0) (c .pre .1 .1))
 
--- src/head.rt:138:1
 returns : tie.Need-returns
 returns c = (search needs, omega (arith, base-few (c .args .n) _ _ (c .pre .0) (c .pre .1 .0) (c .pre .1 .1)))
 

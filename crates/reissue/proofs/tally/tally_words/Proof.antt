@@ -1,3 +1,4 @@
+-- The invariant: the counts of all are those so far with those of the objects left. Assumes nothing.
 use Rattle.reissue.proofs.TallyLaws.{tally-start, word-stands, tally-on, tally-end, tally-few}
 use Prim.Native.Nat.{_-_, _≤_}
 use mathlib.Core.Path.{_≡_}
@@ -9,10 +10,6 @@ use Rattle.reissue.specs.Tally.{withObjects}
 use borrow.Author.Needs.{needs}
 use Rattle.reissue.proofs.tally.tally_words.Statement.{statement}
 use Rattle.reissue.proofs.tally.tally_words.Tie as tie
-use Rattle.reissue.proofs.tally.tally_words.Reads as reads
-use Rattle.reissue.proofs.tally.tally_words.Lts as lts
-use Rattle.reissue.proofs.tally.add_word.Reads as add-word-reads
-use Rattle.words.proofs.get.Reads as get-reads
 
 abbrev Inv-loop : tie.InvT-loop
 Inv-loop s m work t₀ k₀ t k = (k ≤ m) × (tallyIn (objectsAt s (wordsIn work 0 m)) ≡ withObjects t (objectsAt s (drop k (wordsIn work 0 m))))
@@ -20,31 +17,24 @@ Inv-loop s m work t₀ k₀ t k = (k ≤ m) × (tallyIn (objectsAt s (wordsIn wo
 abbrev μ-loop : tie.MeasureT-loop
 μ-loop s m work t₀ k₀ t k = m - k
 
--- src/tally.rt:59:5
 loop-holds : tie.Need-loop-holds Inv-loop μ-loop
 loop-holds c = (search needs, search (needs, tally-start))
 
--- src/tally.rt:60:13
 get-requires : tie.Need-get-requires Inv-loop μ-loop
 get-requires c κs = search needs
 
--- src/tally.rt:61:9
 add-word-requires : tie.Need-add-word-requires Inv-loop μ-loop
 add-word-requires c κs = (search (needs, tally-few), search (needs, word-stands))
 
--- src/tally.rt:62:9
 add-k : tie.Need-add-k Inv-loop μ-loop
 add-k c = search needs
 
--- src/tally.rt:59:5
 loop-less : tie.Need-loop-less Inv-loop μ-loop
 loop-less c = search needs
 
--- src/tally.rt:59:5
 loop-again : tie.Need-loop-again Inv-loop μ-loop
 loop-again c = (search needs, search (needs, tally-on))
 
--- src/tally.rt:46:1
 returns : tie.Need-returns Inv-loop μ-loop
 returns c = search (needs, tally-end)
 
