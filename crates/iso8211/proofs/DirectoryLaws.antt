@@ -137,7 +137,8 @@ module _ (s : List ℕ) (body size due long place : ℕ) where
   }
 
 -- ---- judged: row by row
-peel : (batch : List (List ℕ)) (k n : ℕ) → k < n → n ≤ length batch → drop k (take n batch) ≡ getD batch k [] ∷ drop (k + 1) (take n batch)
+-- the first n rows from row k on
+pub peel : (batch : List (List ℕ)) (k n : ℕ) → k < n → n ≤ length batch → drop k (take n batch) ≡ getD batch k [] ∷ drop (k + 1) (take n batch)
 peel batch k n h f =
     rw (add-one k) (drop-cons (take n batch) k [] (rw (length-take-le n batch f) h) ∙ ap (λ (row : List ℕ). row ∷ drop (suc k) (take n batch)) (getD-take n batch k [] h))
 

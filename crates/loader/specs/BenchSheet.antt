@@ -24,6 +24,12 @@ use Rattle.ring.specs.Ring.{nodeStep, nodeWith, nodeOf, nodesOf, found, nodeIn,
 use Rattle.records.specs.Pieces.{Piece}
 use Rattle.records.specs.Written.{tagBytes, bodyOf, rowsFor, longest, farthest, rowBytes, rowsBytes, baseFor, leaderOf, headOver, headBytes, recordBytes, sizeOf}
 use Rattle.objects.specs.Object.{Object, isFeature, listPiece, listPieces, vridBytes, vectorPieces, featurePieces, objectPieces}
+use Rattle.attributes.specs.Attributes.{labelOf, isRemoval}
+use Rattle.chart.specs.Value.{isAttributes}
+use Rattle.edits.specs.Control.{gone, come, allowed, edited, editedBy}
+use Rattle.edits.specs.AttributeEdit.{named, change, finds, changes, changesFind}
+use Rattle.edits.specs.Lists.{isNone, coordinates, controlOf, listAllowed, allowedAt, listsAllowed, listsEdited}
+use Rattle.edits.specs.Examples.{byControl, one, bringing, byLabel, editRows}
 use Rattle.topology.specs.Topology.{itemCode, codeAmong, faultFrom, topologyOf}
 
 -- ---- small charts
@@ -93,7 +99,7 @@ unfoldable pub verdict : List Item → ℕ
 verdict all = topologyOf 10000000 all .code
 
 -- "1. Connected node: fields 3, 9, 9; leader `00067 D     00046   1204`."  "2. Edge, no coordinates: base 49, length 80."  "4. Area 1F 2F 3R closes; 1F 2F 3F
--- is 19."  "5. A loop edge alone is a ring; two such as exterior are 19."  "9. X = 1,800,000,000 at COMF 10,000,000 passes; one more is 17."
+-- is 19."  "5. A loop edge alone is a ring; two such as exterior are 19."  6, 7 and 8, each with its code in front: `editRows`.  "9. X = 1,800,000,000 at COMF 10,000,000 passes; one more is 17."
 pub bench-sheet : (
     lengths (rowsFor 0 heldNode)
     ∷ take 24 (recordBytes heldNode)
@@ -101,13 +107,19 @@ pub bench-sheet : (
     ∷ (verdict (triangle (along-edge 1 1 ∷ along-edge 1 2 ∷ along-edge 2 3 ∷ [])) ∷ verdict (triangle (along-edge 1 1 ∷ along-edge 1 2 ∷ along-edge 1 3 ∷ [])) ∷ [])
     ∷ (verdict (loops (along-edge 1 1 ∷ [])) ∷ verdict (loops (along-edge 1 1 ∷ along-edge 1 2 ∷ [])) ∷ [])
     ∷ (verdict (isolated 1800000000) ∷ verdict (isolated 1800000001) ∷ [])
-    ∷ [])
+    ∷ editRows)
     ≡ (3 ∷ 9 ∷ 9 ∷ [])
     ∷ bytes "00067 D     00046   1204"
     ∷ (49 ∷ 80 ∷ [])
     ∷ (0 ∷ 19 ∷ [])
     ∷ (0 ∷ 19 ∷ [])
     ∷ (0 ∷ 17 ∷ [])
+    ∷ (0 ∷ 10 ∷ 20 ∷ 30 ∷ [])
+    ∷ (16 ∷ [])
+    ∷ (16 ∷ [])
+    ∷ (0 ∷ 10 ∷ [])
+    ∷ (0 ∷ 5 ∷ 0 ∷ 31 ∷ [])
+    ∷ (0 ∷ [])
     ∷ []
 unfolding item node end edge along-edge area triangle loops isolated vector heldNode heldEdge lengths verdict
     numAt bytesOf allOf through within isCollection rankOf nameFrom itemName nameIn foundCode placeFrom placeIn objectIn
@@ -117,4 +129,6 @@ unfolding item node end edge along-edge area triangle loops isolated vector held
     itemCode codeAmong faultFrom topologyOf
     digitsOf fewest fewestFrom rowOf table tagOf asNumber bytes tagBytes bodyOf rowsFor longest farthest rowBytes rowsBytes baseFor leaderOf headOver headBytes recordBytes sizeOf
     isFeature listPiece listPieces vridBytes vectorPieces featurePieces objectPieces flatten
+    editRows byControl one bringing byLabel gone come allowed edited editedBy labelOf isRemoval named change finds changes changesFind
+    isAttributes isNone coordinates controlOf listAllowed allowedAt listsAllowed listsEdited
 bench-sheet = refl

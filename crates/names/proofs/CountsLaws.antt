@@ -34,7 +34,7 @@ count-few such zero s at = omega arith
 count-few such (suc n) s at = let rest = count-few such n s (endOf s at) in let one = one-few (such s at) in omega arith
 
 -- ---- a tally
-tally-same : {a b c d e f g h i j k l : ℕ} → a ≡ g → b ≡ h → c ≡ i → d ≡ j → e ≡ k → f ≡ l
+pub tally-same : {a b c d e f g h i j k l : ℕ} → a ≡ g → b ≡ h → c ≡ i → d ≡ j → e ≡ k → f ≡ l
     → _≡_ {A = Tally} (record { meta = a; geo = b; collection = c; isolated = d; connected = e; edges = f })
     (record { meta = g; geo = h; collection = i; isolated = j; connected = k; edges = l })
 tally-same p q r s t u = rw (p, q, r, s, t, u)

@@ -3,15 +3,15 @@ use Prim.Native.Nat.{ℕ, zero, suc, _+_, _-_, _*_, _/_, _%_, _≤_, _<_, max}
 use mathlib.Core.List.{List, [], _∷_, _++_}
 use mathlib.Core.Path.{_≡_, refl, sym, ap, _∙_}
 use native.Mathlib.Nat.{mul-le-mul-right}
-use native.Mathlib.Numerals.{add-one}
 use native.Mathlib.Omega.{arith}
 use lib.ListN.{length, take, drop, getD, length-append, drop-of-length-le}
-use lib.Seq.{drop-cons, getD-take, length-take-le}
+use lib.Seq.{length-take-le}
 use Rattle.octets.specs.Number.{bytesOf}
 use Rattle.octets.specs.Digits.{digitsOf, fewest}
 use Rattle.octets.specs.Area.{Wrote, Going}
 use Rattle.octets.proofs.AreaLaws.{wrote-join, wrote-as, going-step, going-end, going-room}
 use Rattle.octets.proofs.DigitsLaws.{digits-length}
+use Rattle.iso8211.proofs.DirectoryLaws.{peel}
 use Rattle.iso8211.specs.Directory.{rowWidth}
 use Rattle.records.specs.Written.{tagBytes, longest, farthest, rowBytes, rowsBytes, baseFor, leaderOf, headOver, headBytes}
 use Rattle.records.proofs.WrittenLaws.{row-length, leader-length}
@@ -42,10 +42,6 @@ unfolding rowBytes
 row-put l p t n x f g h = wrote-join f (wrote-join g h)
 
 -- ---- the rows one after the other
-peel : (rows : List (List ℕ)) (k n : ℕ) → k < n → n ≤ length rows → drop k (take n rows) ≡ getD rows k [] ∷ drop (k + 1) (take n rows)
-peel rows k n h f =
-    rw (add-one k) (drop-cons (take n rows) k [] (rw (length-take-le n rows f) h) ∙ ap (λ (row : List ℕ). row ∷ drop (suc k) (take n rows)) (getD-take n rows k [] h))
-
 gone : (rows : List (List ℕ)) (k n : ℕ) → n ≤ k → n ≤ length rows → drop k (take n rows) ≡ []
 gone rows k n h f = drop-of-length-le (take n rows) {i = k} (rw (length-take-le n rows f) h)
 

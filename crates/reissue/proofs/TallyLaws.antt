@@ -4,20 +4,19 @@ use mathlib.Core.Bool.{true, false}
 use mathlib.Core.List.{List, [], _∷_}
 use mathlib.Core.Logic.{_⊎_, inl, inr, ⊎-elim}
 use mathlib.Core.Path.{_≡_, refl, sym, ap, _∙_}
-use native.Mathlib.Numerals.{add-one}
 use native.Mathlib.Omega.{arith}
-use lib.ListN.{length, drop, getD, drop-of-length-le}
-use lib.Seq.{drop-cons}
+use lib.ListN.{length, drop, drop-of-length-le}
 use lib.Dec.{eqb}
 use borrow.Author.Tests.{eqb-true, eq-eqb, ne-eqb}
 use Rattle.octets.specs.Number.{byteAt}
 use Rattle.octets.proofs.Cases.{true-or-false}
 use Rattle.words.specs.Words.{wordAt, wordsIn}
-use Rattle.words.proofs.WordsLaws.{words-length, words-at}
+use Rattle.words.proofs.WordsLaws.{words-length, word-is, words-from}
 use Rattle.items.specs.Identity.{placeOf, rcnmAt, objlAt, rankOf, Featured}
 use Rattle.names.specs.Counts.{withVector, withFeature, withRecord, AtMost}
 use Rattle.names.specs.Held.{Stands, AllStand}
 use Rattle.names.specs.declared.counts.Tally.{Tally}
+use Rattle.names.proofs.CountsLaws.{tally-same}
 use Rattle.names.proofs.HeldLaws.{stand-rank}
 use Rattle.objects.specs.Object.{Object, objectAt, isFeature, ofFeature}
 use Rattle.held.specs.Held.{countIn, ofName, ofClass, tallyIn}
@@ -53,11 +52,6 @@ module _ {s : List ℕ} {w : ℕ} (so : Stands s w) (small : (i : ℕ) → byteA
       told ∙ rw (ne-eqb (rcnmAt s (placeOf w)) 100 (p .1), is, rank-is, p .0)
 
 -- ---- one object more
-tally-same : {a b c d e f g h i j k l : ℕ} → a ≡ g → b ≡ h → c ≡ i → d ≡ j → e ≡ k → f ≡ l
-    → _≡_ {A = Tally} (record { meta = a; geo = b; collection = c; isolated = d; connected = e; edges = f })
-    (record { meta = g; geo = h; collection = i; isolated = j; connected = k; edges = l })
-tally-same p q r s t u = rw (p, q, r, s, t, u)
-
 objects-next : (t : Tally) (s : List ℕ) (at : ℕ) (ts : List Object) → withObjects t (objectAt s at ∷ ts) ≡ withObjects (withRecord t s at) ts
 unfolding withObjects withRecord withVector withFeature countIn ofName ofClass ofFeature isFeature
 objects-next t s at ts =
@@ -79,20 +73,14 @@ unfolding tallyIn withObjects
 tally-start s ws = tally-same (omega arith) (omega arith) (omega arith) (omega arith) (omega arith) (omega arith)
 
 module _ (s work : List ℕ) (m k w : ℕ) (here : k < m) (read : w ≡ wordAt work k) where
-  word-is : getD (wordsIn work 0 m) k 0 ≡ w
-  word-is = words-at work 0 m k here ∙ ap (λ (i : ℕ). wordAt work i) (let e : 0 + k ≡ k = omega arith in e) ∙ sym read
-
-  peel : drop k (wordsIn work 0 m) ≡ w ∷ drop (k + 1) (wordsIn work 0 m)
-  peel = rw (add-one k) (drop-cons (wordsIn work 0 m) k 0 (rw (words-length work 0 m) here) ∙ ap (λ (x : ℕ). x ∷ drop (suc k) (wordsIn work 0 m)) word-is)
-
   pub word-stands : AllStand s (wordsIn work 0 m) → Stands s w
-  word-stands all = rw word-is at (all .each k (rw (words-length work 0 m) here))
+  word-stands all = rw (word-is work m k w here read) at (all .each k (rw (words-length work 0 m) here))
 
   pub tally-on : (all t u : Tally) → all ≡ withObjects t (objectsAt s (drop k (wordsIn work 0 m))) → u ≡ withRecord t s (placeOf w)
       → all ≡ withObjects u (objectsAt s (drop (k + 1) (wordsIn work 0 m)))
   unfolding objectsAt
   tally-on all t u so told =
-      so ∙ ap (λ (l : List ℕ). withObjects t (objectsAt s l)) peel ∙ objects-next t s (placeOf w) (objectsAt s (drop (k + 1) (wordsIn work 0 m)))
+      so ∙ ap (λ (l : List ℕ). withObjects t (objectsAt s l)) (words-from work m k w here read) ∙ objects-next t s (placeOf w) (objectsAt s (drop (k + 1) (wordsIn work 0 m)))
       ∙ ap (λ (x : Tally). withObjects x (objectsAt s (drop (k + 1) (wordsIn work 0 m)))) (sym told)
 
 pub tally-end : (s work : List ℕ) (m k : ℕ) (all t : Tally) → m ≤ k → all ≡ withObjects t (objectsAt s (drop k (wordsIn work 0 m))) → t ≡ all

@@ -5,9 +5,10 @@ use mathlib.Core.List.{List, [], _∷_, _++_}
 use mathlib.Core.Path.{_≡_, refl, sym, ap, _∙_}
 use mathlib.Core.Logic.{_⊎_, ⊎-elim}
 use native.Mathlib.Nat.{add-zero, zero-add, add-suc, suc-add}
+use native.Mathlib.Numerals.{add-one}
 use native.Mathlib.Omega.{arith}
 use lib.ListN.{length, take, drop, getD, set, length-set}
-use lib.Seq.{length-sets, ext-getD, getD-take, getD-drop, getD-set-same, getD-set-other}
+use lib.Seq.{length-sets, drop-cons, ext-getD, getD-take, getD-drop, getD-set-same, getD-set-other}
 use Rattle.octets.specs.Number.{byteAt, numAt, bytesOf}
 use Rattle.octets.specs.Area.{Wrote}
 use Rattle.octets.proofs.Cases.{le-or-lt, eq-or-ne}
@@ -48,6 +49,15 @@ unfolding wordsIn
 words-at s i zero k h = absurd (omega arith)
 words-at s i (suc n) zero h = rw (add-zero i)
 words-at s i (suc n) (suc k) h = words-at s (suc i) n k (omega arith) ∙ rw (suc-add i k, add-suc i k)
+
+-- the words from word k on, the first of them in hand
+pub word-is : (s : List ℕ) (n k w : ℕ) → k < n → w ≡ wordAt s k → getD (wordsIn s 0 n) k 0 ≡ w
+word-is s n k w here read = words-at s 0 n k here ∙ ap (λ (i : ℕ). wordAt s i) (zero-add k) ∙ sym read
+
+pub words-from : (s : List ℕ) (n k w : ℕ) → k < n → w ≡ wordAt s k → drop k (wordsIn s 0 n) ≡ w ∷ drop (k + 1) (wordsIn s 0 n)
+words-from s n k w here read =
+    rw (add-one k)
+    (drop-cons (wordsIn s 0 n) k 0 (rw (words-length s 0 n) here) ∙ ap (λ (x : ℕ). x ∷ drop (suc k) (wordsIn s 0 n)) (word-is s n k w here read))
 
 -- all words of a slice
 pub all-at : (s : List ℕ) (k : ℕ) → k < length s / 8 → getD (wordsOf s) k 0 ≡ wordAt s k

@@ -1,22 +1,17 @@
 -- All items written and counted: turns of the loops; and that records which are short enough fit. Assumes nothing.
 use Prim.Native.Nat.{_*_, ℕ, suc, _+_, _≤_, _<_, max}
-use mathlib.Core.Bool.{true, false}
 use mathlib.Core.List.{List, [], _∷_, _++_}
-use mathlib.Core.Logic.{⊎-elim}
-use mathlib.Core.Path.{_≡_, refl, sym, ap, _∙_}
-use native.Mathlib.Numerals.{add-one}
+use mathlib.Core.Path.{_≡_, refl, ap, _∙_}
 use native.Mathlib.Omega.{arith}
-use lib.ListN.{length, drop, getD, length-append, drop-of-length-le}
-use lib.Seq.{drop-cons}
+use lib.ListN.{length, drop, length-append, drop-of-length-le}
 use Rattle.octets.specs.Area.{Wrote, Going}
 use Rattle.octets.proofs.AreaLaws.{going-start, going-step, going-end, going-room}
-use Rattle.octets.proofs.Cases.{true-or-false}
 use Rattle.words.specs.Words.{wordAt, wordsIn}
-use Rattle.words.proofs.WordsLaws.{words-length, words-at}
+use Rattle.words.proofs.WordsLaws.{words-length, words-from}
 use Rattle.items.specs.Identity.{placeOf}
-use Rattle.records.specs.Written.{recordBytes, recordsBytes, sizeOf, AllFit, fit-none, fit-more}
+use Rattle.records.specs.Written.{recordBytes, recordsBytes, sizeOf}
 use Rattle.records.proofs.WrittenLaws.{record-length}
-use Rattle.objects.specs.Object.{Object, objectAt, objectPieces, featurePieces, vectorPieces, isFeature}
+use Rattle.objects.specs.Object.{objectAt, objectPieces}
 use Rattle.held.specs.Held.{objectsPieces}
 use Rattle.writing.specs.Plain.{Writable, ItemSized}
 use Rattle.writing.specs.All.{objectsAt, writtenFrom, mostOf, Words, AllSized}
@@ -42,10 +37,7 @@ module _ (s work : List ℕ) (m k w : ℕ) (here : k < m) (read : w ≡ wordAt w
   rest = writtenFrom (k + 1 + 3) s (drop (k + 1) all-words)
 
   peel : drop k all-words ≡ w ∷ drop (k + 1) all-words
-  peel =
-      let same : 0 + k ≡ k = omega arith in
-      let first : getD all-words k 0 ≡ w = words-at work 0 m k here ∙ ap (λ (i : ℕ). wordAt work i) same ∙ sym read in
-      rw (add-one k) (drop-cons all-words k 0 (rw (words-length work 0 m) here) ∙ ap (λ (x : ℕ). x ∷ drop (suc k) all-words) first)
+  peel = words-from work m k w here read
 
   all-next : writtenFrom (k + 3) s (drop k all-words) ≡ one ++ rest
   all-next =
@@ -105,19 +97,3 @@ module _ (s work : List ℕ) (m k : ℕ) (past : m ≤ k) where
       let e = ap length none in
       let f : mostOf (k + 3) s (drop k (wordsIn work 0 m)) ≡ 0 = ap (λ (l : List ℕ). mostOf (k + 3) s l) gone in
       record { sum-is = omega arith; most-is = omega arith; sum-few = omega arith }
-
--- ---- the test before writing: no record is too long
-object-some : (n : ℕ) (t : Object) → 1 ≤ length (objectPieces n t)
-unfolding objectPieces featurePieces vectorPieces
-object-some n t =
-    ⊎-elim
-    (λ (e : isFeature (t .rcnm) ≡ true). rw e (omega arith))
-    (λ (e : isFeature (t .rcnm) ≡ false). rw e (omega arith))
-    (true-or-false (isFeature (t .rcnm)))
-
-pub all-fit : (n : ℕ) (s ws : List ℕ) → mostOf n s ws ≤ 99999 → AllFit (objectsPieces n (objectsAt s ws))
-unfolding mostOf objectsAt objectsPieces
-all-fit n s [] h = fit-none
-all-fit n s (w ∷ ws) h =
-    let fs = objectPieces n (objectAt s (placeOf w)) in
-    fit-more {r = fs} (record { some = object-some n (objectAt s (placeOf w)); small = omega arith }) (all-fit (n + 1) s ws (omega arith))

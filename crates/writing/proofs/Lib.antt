@@ -1,4 +1,4 @@
--- The laws of `writing`: for the crates above `cell-writable` and `all-fit`, the others for the proofs of this crate.
+-- The laws of `writing`: for the crates above `cell-writable`, the others for the proofs of this crate.
 pub mod PartLaws
 pub mod RowLaws
 pub mod PlanLaws
