@@ -8,10 +8,13 @@ use Rattle.iso8211.specs.Field.{countAt, fieldAt, RecordIn}
 use Rattle.iso8211.specs.declared.field.Field.{Field}
 use Rattle.table.specs.Table.{first, DSID, DSSI, DSPM}
 use Rattle.layout.specs.Record.{contentAt}
+use Rattle.chart.specs.Read.{aallAt, nallAt}
+use Rattle.names.specs.declared.counts.Tally.{Tally}
 use Rattle.records.specs.Pieces.{Piece}
 use Rattle.records.specs.Written.{sizeOf}
 use Rattle.objects.specs.Object.{piece}
 use Rattle.header.specs.Dsid.{dsidOf, dsidBytes}
+use Rattle.header.specs.Dssi.{dssiBytes}
 use Rattle.header.specs.Known.{Known}
 
 abbrev pub dsidFields : List ℕ → List ℕ → List Piece
@@ -19,6 +22,13 @@ dsidFields d v = piece first (bytesOf 2 1) ∷ piece DSID d ∷ piece DSSI v ∷
 
 abbrev pub dspmFields : List ℕ → List Piece
 dspmFields d = piece first (bytesOf 2 2) ∷ piece DSPM d ∷ []
+
+-- what is written for the DSID of the record at `at`, and for its DSSI with these counts
+abbrev pub dsidIn : List ℕ → ℕ → List ℕ
+dsidIn s at = dsidBytes (dsidOf (contentAt s at 1))
+
+abbrev pub dssiIn : List ℕ → ℕ → Tally → List ℕ
+dssiIn s at t = dssiBytes (aallAt s at) (nallAt s at) t
 
 -- field j of the record at `at`, and that its bytes are there
 pub record FieldThere (s : List ℕ) (at j : ℕ) (f : Field) : Type 0 where

@@ -7,12 +7,10 @@ ghost use Rattle.octets.specs.Number.{bytesOf};
 ghost use Rattle.octets.specs.Area.{Wrote};
 ghost use Rattle.iso8211.specs.Field.{countAt, fieldAt, RecordIn};
 ghost use Rattle.layout.specs.Record.{contentAt};
-ghost use Rattle.chart.specs.Read.{aallAt, nallAt};
 ghost use Rattle.records.specs.Written.{bodyOf, recordBytes, sizeOf};
 ghost use Rattle.header.specs.Dsid.{dsidOf, dsidBytes};
-ghost use Rattle.header.specs.Dssi.{dssiBytes};
 ghost use Rattle.header.specs.Known.{Known};
-ghost use Rattle.reissue.specs.Front.{dsidFields, dspmFields, FieldThere, DsidSized, DsidIn, DspmIn};
+ghost use Rattle.reissue.specs.Front.{dsidFields, dspmFields, dsidIn, dssiIn, FieldThere, DsidSized, DsidIn, DspmIn};
 use header::dsid::dsid_size;
 use header::dsid::put_dsid;
 use header::dssi::put_dssi;
@@ -118,7 +116,7 @@ fn dssi_at(s: &[u8], at: usize) -> usize
 // DSSI with these counts and the levels of the record at `at`, and its 1E.
 fn put_counts(s: &[u8], at: usize, t: Tally, out: &mut [u8], place: usize) -> usize
     requires { ⌜ DsidIn (now s) at × (place + 36 ≤ length (now out)) ⌝ }
-    ensures { λ r. ⌜ Wrote (now (out .entry)) place (dssiBytes (aallAt (now (s .entry)) at) (nallAt (now (s .entry)) at) t ++ (30 ∷ [])) (now (out .exit)) r ⌝ }
+    ensures { λ r. ⌜ Wrote (now (out .entry)) place (dssiIn (now (s .entry)) at t ++ (30 ∷ [])) (now (out .exit)) r ⌝ }
 {
     let i = dssi_at(s, at);
     let end = put_dssi(s[i + 1], s[i + 2], t, out, place);
@@ -127,8 +125,8 @@ fn put_counts(s: &[u8], at: usize, t: Tally, out: &mut [u8], place: usize) -> us
 
 // The fields of the record of DSID with these counts.
 fn put_dsid_fields(s: &[u8], at: usize, t: Tally, out: &mut [u8], place: usize) -> usize
-    requires { ⌜ DsidIn (now s) at × (place + (40 + length (dsidBytes (dsidOf (contentAt (now s) at 1)))) ≤ length (now out)) ⌝ }
-    ensures { λ r. ⌜ Wrote (now (out .entry)) place (bodyOf (dsidFields (dsidBytes (dsidOf (contentAt (now (s .entry)) at 1))) (dssiBytes (aallAt (now (s .entry)) at) (nallAt (now (s .entry)) at) t))) (now (out .exit)) r ⌝ }
+    requires { ⌜ DsidIn (now s) at × (place + (40 + length (dsidIn (now s) at)) ≤ length (now out)) ⌝ }
+    ensures { λ r. ⌜ Wrote (now (out .entry)) place (bodyOf (dsidFields (dsidIn (now (s .entry)) at) (dssiIn (now (s .entry)) at t))) (now (out .exit)) r ⌝ }
 {
     let a = put_number(1, out, place);
     let b = put_named(content(s, at, 1), out, a);
@@ -137,8 +135,8 @@ fn put_dsid_fields(s: &[u8], at: usize, t: Tally, out: &mut [u8], place: usize) 
 
 // The record of DSID, which is at `at`, with these counts.
 pub fn put_dsid_record(s: &[u8], at: usize, t: Tally, out: &mut [u8], place: usize) -> usize
-    requires { ⌜ DsidIn (now s) at × (place + sizeOf (dsidFields (dsidBytes (dsidOf (contentAt (now s) at 1))) (dssiBytes (aallAt (now s) at) (nallAt (now s) at) t)) ≤ length (now out)) ⌝ }
-    ensures { λ r. ⌜ Wrote (now (out .entry)) place (recordBytes (dsidFields (dsidBytes (dsidOf (contentAt (now (s .entry)) at 1))) (dssiBytes (aallAt (now (s .entry)) at) (nallAt (now (s .entry)) at) t))) (now (out .exit)) r ⌝ }
+    requires { ⌜ DsidIn (now s) at × (place + sizeOf (dsidFields (dsidIn (now s) at) (dssiIn (now s) at t)) ≤ length (now out)) ⌝ }
+    ensures { λ r. ⌜ Wrote (now (out .entry)) place (recordBytes (dsidFields (dsidIn (now (s .entry)) at) (dssiIn (now (s .entry)) at t))) (now (out .exit)) r ⌝ }
 {
     let size = dsid_size(content(s, at, 1)) as u32;
     let rows = dsid_rows(size);
