@@ -62,6 +62,15 @@ bool buffer_load(struct buffer *buffer, const char *path)
     return whole;
 }
 
+bool buffer_save(const struct buffer *buffer, const char *path)
+{
+    FILE *file = fopen(path, "wb");
+    if (file == NULL)
+        return false;
+    bool whole = fwrite(buffer->bytes, 1, buffer->length, file) == buffer->length;
+    return fclose(file) == 0 && whole;
+}
+
 void buffer_free(struct buffer *buffer)
 {
     free(buffer->bytes);

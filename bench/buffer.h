@@ -27,6 +27,9 @@ void buffer_remove(struct buffer *buffer, size_t at, size_t count);
 /* Appends the bytes of a file; false where it can't be read to its end. */
 bool buffer_load(struct buffer *buffer, const char *path);
 
+/* Writes them as a file; false where that can't be done. */
+bool buffer_save(const struct buffer *buffer, const char *path);
+
 void buffer_free(struct buffer *buffer);
 
 #endif

@@ -25,16 +25,14 @@ const char *admit_kind(size_t index)
 
 /* ---- ways that don't change the held form, save for the two numbers themselves */
 
-/* Numbers at which a digit more is needed come often. */
-static uint32_t any_number(uint32_t least, uint32_t most, struct random *random)
+uint32_t any_number(uint32_t least, uint32_t most, struct random *random)
 {
     static const uint32_t steps[] = {0, 1, 9, 10, 99, 100, 101, 999, 1000, 9999};
     uint32_t number = steps[random_below(random, sizeof steps / sizeof steps[0])];
     return number >= least && number <= most && random_one_in(random, 2) ? number : random_between(random, least, most);
 }
 
-/* With as many leading zeros as there is room for, or fewer. */
-static void spell(struct chart_field *field, const char *label, uint32_t number, int width, struct random *random)
+void spell(struct chart_field *field, const char *label, uint32_t number, int width, struct random *random)
 {
     char text[16];
     int length = snprintf(text, sizeof text, "%0*u", (int)random_between(random, 1, (uint32_t)width), (unsigned)number);

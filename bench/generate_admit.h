@@ -43,6 +43,15 @@ struct buffer held_of_chart(const struct chart *chart);
 /* The bytes of one record in it. */
 size_t held_record_length(const struct chart_record *record);
 
+/* A number for EDTN or UPDN: those at which a digit more is needed come often. */
+uint32_t any_number(uint32_t least, uint32_t most, struct random *random);
+
+/* Writes a number as such a text, with as many leading zeros as there is room for, or fewer. */
+void spell(struct chart_field *field, const char *label, uint32_t number, int width, struct random *random);
+
+/* A record 0 that is much shorter than the held form's: no tags beside those used, no tree of tags. */
+void describe_briefly(struct chart *cell, struct random *random);
+
 /* Puts `count` bytes more into the text that a field ends with. */
 void lengthen_text(struct chart_field *field, size_t count);
 

@@ -269,6 +269,13 @@ void write_chart(const struct chart *chart, const struct style *style, struct dr
         write_record(&chart->list.record[i], style, draft, random);
 }
 
+void dress_leader(uint8_t *leader)
+{
+    leader[5] = '3';
+    memcpy(leader + 7, "E1 ", 3);
+    memcpy(leader + 17, " ! ", 3);
+}
+
 size_t fault_offset(const struct fault *fault, const struct chart *chart, const struct draft *draft)
 {
     if (fault->spot == AT_FILE_END)

@@ -113,6 +113,9 @@ void count_records(struct chart *chart);
 
 /* ---- writing */
 
+/* What document 01 leaves free in the leader of record 0, as files usually have it. */
+void dress_leader(uint8_t *leader);
+
 /* Of `style` only the digits and `plain` matter. */
 void write_chart(const struct chart *chart, const struct style *style, struct draft *draft, struct random *random);
 

@@ -66,7 +66,7 @@ static void damage_entries(struct chart_field *field, struct random *random)
         replace_bytes(&field->content, other, copy, chosen.length);
 }
 
-static void damage_pointers(struct chart *cell, struct random *random)
+void damage_pointers(struct chart *cell, struct random *random)
 {
     static const char *const tags[] = {"VRPT", "FSPT", "FSPT", "FFPT", "SG2D", "SG3D", "FOID", "FRID"};
     const char *tag = tags[random_below(random, sizeof tags / sizeof tags[0])];
@@ -143,7 +143,7 @@ static void damage_area(struct chart *cell, struct chart_field *field, struct ra
 }
 
 /* An area's boundary, or the node that an edge ends at. */
-static void damage_ring(struct chart *cell, struct random *random)
+void damage_ring(struct chart *cell, struct random *random)
 {
     size_t record, at;
     const struct chart_record *node = any_of_class(cell, 120, random);

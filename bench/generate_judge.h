@@ -27,6 +27,10 @@ struct judge_case heavy_cell_make(size_t index);
 /* The rules whose breaking codes 17 to 19 answer; the record of such a fault is a place in held order. */
 extern const struct rule_set topology_faults;
 
+/* Random damage to what topology looks at: pointers, coordinates and PRIM, or rings alone. */
+void damage_pointers(struct chart *cell, struct random *random);
+void damage_ring(struct chart *cell, struct random *random);
+
 /* The place in held order of a cell's record. */
 size_t held_place(const struct chart *chart, size_t index);
 

@@ -66,8 +66,7 @@ static void put_line(struct chart_record *record, uint32_t edge, size_t count)
     }
 }
 
-/* No tags beside those used, no tree of tags. */
-static void describe_briefly(struct chart *cell, struct random *random)
+void describe_briefly(struct chart *cell, struct random *random)
 {
     struct chart_record *zero = &cell->list.record[0];
     describe_chart(cell, true, random);

@@ -24,7 +24,7 @@ static uint32_t id_of(enum ids ids, uint32_t index)
     }
 }
 
-static void put_value_text(struct buffer *content, bool high, bool plain, struct random *random)
+void put_value_text(struct buffer *content, bool high, bool plain, struct random *random)
 {
     static const char *const usual[] = {"1", "2", "4,7", "12.5", "Fl R 5s", "Outer Mole Light", "20240131", "", "unknown", "0.3"};
     if (plain || random_one_in(random, 2)) {

@@ -35,6 +35,9 @@ struct data_set {
 /* A record with its 0001. */
 struct chart_record *new_record(struct record_list *list, const struct scene *scene);
 
+/* A value or comment, often a usual one, at times an empty one, and its 1F. */
+void put_value_text(struct buffer *content, bool high, bool plain, struct random *random);
+
 void put_attributes(struct chart_record *record, const char *tag, uint32_t count, bool high, bool plain, struct random *random);
 void put_data_set(struct chart_record *record, const struct data_set *set, struct random *random);
 void put_structure(struct chart_record *record, bool high_attributes, bool high_national);

@@ -1,10 +1,11 @@
 /* Writes good generated cells for readers that know the S-57 object catalogue: features of all primitives, of classes and with attributes that the
    catalogue has, national texts, soundings, relations. Record 0 is such as other readers open; all else is written in the generator's many ways: any
-   order, ids, running numbers and sizes, numbers with leading zeros. The C reader must judge each 0.
+   order, ids, running numbers and sizes, numbers with leading zeros. The C reader must judge each 0. With each cell come five updates, one after the other,
+   that do what other readers can do too: bench/gdal.sh.
    usage: make_cells FOLDER [COUNT [FIRST_SEED]]
-   The cell of seed 7 is FOLDER/007.000. Those of even seeds have lists in several fields; FOLDER/008-joined.000 is then the same cell with each list
-   in one. */
-#include "generate_judge.h"
+   The cell of seed 7 is FOLDER/007.000, its updates 007.001 to 007.005. Those of even seeds have lists in several fields; FOLDER/008-joined.000 and so on are
+   then the same with each list in one. */
+#include "generate_pair.h"
 
 #include <stdio.h>
 #include <stdlib.h>
@@ -18,7 +19,7 @@ struct attribute {
     char kind;
 };
 
-enum { POINT = 1, LINE = 2, AREA = 4, COLLECTION = 8, MOST_ATTRIBUTES = 8, SOUNDG = 129 };
+enum { POINT = 1, LINE = 2, AREA = 4, COLLECTION = 8, MOST_ATTRIBUTES = 8, SOUNDG = 129, UPDATES = 5 };
 
 static const struct object_class {
     uint16_t code;
@@ -207,32 +208,17 @@ static void describe(struct chart *cell, bool plain, struct random *random)
     }
 }
 
-/* What document 01 leaves free in the leader of record 0, as files usually have it. */
-static void dress_leader(uint8_t *leader)
-{
-    leader[5] = '3';
-    memcpy(leader + 7, "E1 ", 3);
-    memcpy(leader + 17, " ! ", 3);
-}
-
-static bool write_bytes(const struct buffer *bytes, const char *path)
-{
-    FILE *file = fopen(path, "wb");
-    if (file == NULL)
-        return false;
-    bool whole = fwrite(bytes->bytes, 1, bytes->length, file) == bytes->length;
-    return fclose(file) == 0 && whole;
-}
-
 /* In one of many ways. False after saying what went wrong. */
-static bool write_cell(struct chart *cell, const char *path, struct random *random)
+static bool write_anyhow(struct chart *chart, const char *path, struct random *random)
 {
     size_t records = 0;
-    describe(cell, random_one_in(random, 2), random);
-    struct buffer file = write_file(cell, false, random, &records);
+    struct answer answer = {0};
+    describe(chart, random_one_in(random, 2), random);
+    struct buffer file = write_file(chart, false, random, &records);
     dress_leader(file.bytes);
-    struct answer answer = reader_judge(file.bytes, file.length, 16 * records);
-    bool good = answer.code == CODE_DONE, written = good && write_bytes(&file, path);
+    if (!chart->update)
+        answer = reader_judge(file.bytes, file.length, 16 * records);
+    bool good = answer.code == CODE_DONE, written = good && buffer_save(&file, path);
     if (!good)
         fprintf(stderr, "make_cells: %s judged %u at record %u\n", path, (unsigned)answer.code, (unsigned)answer.record);
     else if (!written)
@@ -241,21 +227,57 @@ static bool write_cell(struct chart *cell, const char *path, struct random *rand
     return written;
 }
 
+/* The base or an update of a seed, by its number; takes it over. Of even seeds once with each list in one field and once in several. */
+static bool write_both(struct chart *chart, const char *folder, unsigned seed, unsigned number, struct random *random)
+{
+    bool written = true;
+    char path[4096];
+    if (seed % 2 == 0) {
+        snprintf(path, sizeof path, "%s/%03u-joined.%03u", folder, seed, number);
+        written = write_anyhow(chart, path, random);
+        for (unsigned times = 0; times < 3; times++)
+            split_lists(chart, random);
+    }
+    snprintf(path, sizeof path, "%s/%03u.%03u", folder, seed, number);
+    written = written && write_anyhow(chart, path, random);
+    chart_free(chart);
+    return written;
+}
+
+/* Every other feature loses the comments of its relations: other readers can't edit a list that has some. */
+static void drop_comments(struct chart *cell)
+{
+    for (size_t i = 3; i < cell->list.count; i += 2) {
+        struct chart_record *record = &cell->list.record[i];
+        size_t at = find_field(record, "FFPT"), length = list_length(record, "FFPT");
+        for (size_t entry = 0; entry < length; entry++)
+            replace_bytes(&record->field[at].content, subfield_place(&record->field[at], entry, "COMT"), "", 0);
+    }
+}
+
+/* No update follows 999. */
+static void number_base(struct chart *cell)
+{
+    struct chart_field *dsid = &cell->list.record[1].field[1];
+    struct place place = subfield_place(dsid, 0, "UPDN");
+    if (memcmp(dsid->content.bytes + place.start, "999", place.length) == 0)
+        replace_bytes(&dsid->content, place, "099", 3);
+}
+
 static bool write_seed(const char *folder, unsigned seed)
 {
-    struct random random = {seed ^ UINT64_C(0x6DA1CE115)};
-    struct chart cell = make_dressed(&random);
-    bool split = seed % 2 == 0, written = true;
-    char path[4096];
-    if (split) {
-        snprintf(path, sizeof path, "%s/%03u-joined.000", folder, seed);
-        written = write_cell(&cell, path, &random);
-        for (unsigned times = 0; times < 3; times++)
-            split_lists(&cell, &random);
+    struct random random = {seed ^ UINT64_C(0x6DA1CE115)}, later = {seed ^ UINT64_C(0x5E21E5)};
+    struct chart model = make_dressed(&random);
+    number_base(&model);
+    drop_comments(&model);
+    struct chart base = copy_chart(&model);
+    bool written = write_both(&base, folder, seed, 0, &random);
+    for (unsigned number = 1; number <= UPDATES && written; number++) {
+        struct step_style style = {.actions = random_between(&later, 4, 12), .plain = true};
+        struct chart update = next_update(&model, &style, &later);
+        written = write_both(&update, folder, seed, number, &later);
     }
-    snprintf(path, sizeof path, "%s/%03u.000", folder, seed);
-    written = written && write_cell(&cell, path, &random);
-    chart_free(&cell);
+    chart_free(&model);
     return written;
 }
 

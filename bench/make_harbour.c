@@ -225,14 +225,6 @@ static void put_features(struct chart *chart)
 
 /* ---- the file */
 
-/* What no reader judges, as files usually have it. */
-static void dress_leader(uint8_t *leader)
-{
-    leader[5] = '3';
-    memcpy(leader + 7, "E1 ", 3);
-    memcpy(leader + 17, " ! ", 3);
-}
-
 static struct buffer write_harbour(size_t *records)
 {
     struct random random = {1};
@@ -265,8 +257,7 @@ int main(int words, char **word)
         fprintf(stderr, "make_harbour: judged %u at record %u, offset %u\n", (unsigned)answer.code, (unsigned)answer.record, (unsigned)answer.offset);
         return 1;
     }
-    FILE *out = words == 2 ? fopen(word[1], "wb") : NULL;
-    if (out == NULL || fwrite(file.bytes, 1, file.length, out) != file.length || fclose(out) != 0) {
+    if (words != 2 || !buffer_save(&file, word[1])) {
         fprintf(stderr, "usage: make_harbour FILE\n");
         return 2;
     }

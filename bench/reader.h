@@ -74,6 +74,14 @@ enum code {
     CODE_VALUE = 6,
     CODE_TWICE = 7,
     CODE_COUNTS = 8,
+    CODE_OTHER = 9,
+    CODE_EDITION = 10,
+    CODE_NUMBER = 11,
+    CODE_LEVEL = 12,
+    CODE_TARGET = 13,
+    CODE_VERSION = 14,
+    CODE_IDENTITY = 15,
+    CODE_EDIT = 16,
     CODE_SHAPE = 17,
     CODE_POINTER = 18,
     CODE_RING = 19,
@@ -99,6 +107,11 @@ struct answer reader_judge(const uint8_t *cell, size_t length, size_t work_lengt
 /* Admit: the codes of Judge, then 20 and 21. Where it gives 0, the held form stands in front of the output, whose other bytes stay; else all of them
    do. */
 struct answer reader_admit(const uint8_t *cell, size_t length, size_t work_length, uint8_t *out, size_t out_length);
+
+/* Apply: codes 1 to 8 of both files as reader_read_both gives them, 9 to 16, then 17 to 19 of the result, whose file is 3, then 20 and 21. The topology of
+   the cell itself isn't judged. Where it gives 0, the held form of the result stands in the output as with Admit. */
+struct answer reader_apply(const uint8_t *cell, size_t cell_length, const uint8_t *update, size_t update_length, size_t work_length, uint8_t *out,
+                           size_t out_length);
 
 struct buffer;
 

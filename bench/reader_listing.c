@@ -1,8 +1,6 @@
 /* The listing of a cell ("Bench sheet", last part): the verdict first, then the names in held order and the sizes of each record's lists. */
 #include "reader_parts.h"
 
-#include "buffer.h"
-
 #include <inttypes.h>
 #include <stdio.h>
 
@@ -19,22 +17,6 @@ static const struct {
 };
 
 /* ---- sizes */
-
-/* Group by group: a 1F is the end of a text only where a text stands, and may be any byte of a number. */
-static size_t count_groups(const uint8_t *at, const uint8_t *end, const int8_t *runs)
-{
-    size_t count = 0;
-    for (; at < end; count++)
-        for (const int8_t *run = runs; *run != RUNS_END; run++) {
-            if (*run != RUN_TEXT) {
-                at += *run;
-                continue;
-            }
-            while (*at++ != UNIT_END)
-                continue;
-        }
-    return count;
-}
 
 /* What a field adds to the columns: nothing, unless it is a list. */
 static void add_field_sizes(const uint8_t *bytes, const struct field *field, size_t *sizes)

@@ -2,6 +2,7 @@
 #ifndef BENCH_READER_PARTS_H
 #define BENCH_READER_PARTS_H
 
+#include "buffer.h"
 #include "reader.h"
 
 enum { UNIT_END = 0x1F, FIELD_END = 0x1E, MOST_RUNS = 10, HEADS = 8 };
@@ -67,9 +68,34 @@ struct reading {
 
     struct field *fields;    /* of the record at hand */
     size_t field_count;
+    const uint8_t *from;     /* what their places count from, once load_record or load_item has made the record the one at hand */
     uint32_t *met, list;     /* for each ATTL the number of the list that it was last met in; that of the list at hand */
     uint64_t *names;         /* a word a vector or feature: see reader_names.c */
     size_t name_count;
+
+    const struct result *result; /* null for a file; else this is the chart that an update made, and `bytes` are the cell's */
+};
+
+/* What an update made of a cell, beside its names in held order. */
+struct result {
+    const uint8_t *update;
+    const uint8_t *identification; /* the update's DSID */
+    struct source *sources;        /* of each vector and feature, in held order */
+    struct changed *changed;
+    size_t changed_count;
+    struct field *fields;          /* those of the changed ones, one after the other; their places count from `contents` */
+    size_t field_count, field_room;
+    struct buffer contents;        /* a list is one field here */
+};
+
+/* Where a vector or feature of a result stands: its record's place in the cell or in the update, or its number among the changed. */
+struct source {
+    enum { OF_CELL, OF_UPDATE, OF_BOTH } file;
+    size_t at;
+};
+
+struct changed {
+    size_t first, count; /* its fields in those of the result */
 };
 
 static const size_t FINE = SIZE_MAX; /* what a stage returns that finds no fault; else the fault's offset in the file */
@@ -91,6 +117,12 @@ size_t layout_fault(struct reading *reading, const struct record *record, size_t
 /* "Values": of the record that layout_fault found in order. Takes AALL, NALL, COMF and DSSI's counts along. */
 size_t value_fault(struct reading *reading);
 
+/* A name as a word without a record's place, and a word with one: words are in held order as numbers. */
+uint64_t name_word(const uint8_t *identifier, size_t start);
+
+/* Which of DSSI's eight counts a record adds to: NOMR, NOCR, NOGR, NOLR, NOIN, NOCN, NOED, NOFA. */
+unsigned head_of(const uint8_t *identifier);
+
 /* Notes the name of the record at hand, and counts it by class. */
 void note_record(struct reading *reading, size_t start);
 
@@ -111,8 +143,48 @@ bool counts_agree(const struct reading *reading);
 struct answer read_files(struct reading *cell, struct reading *update, size_t work_length);
 void reading_close(struct reading *reading);
 
-/* Codes 17 to 19 on a cell that read_files found good. */
-struct answer judge_topology(struct reading *cell);
+/* ---- records of a chart, whose files read_files found good */
+
+void load_record(struct reading *reading, const uint8_t *from, size_t start);
+
+/* The vector or feature at `index` of the held order. */
+void load_item(struct reading *chart, size_t index);
+
+/* Its FOID, if it is a feature. */
+const uint8_t *object_of(const struct reading *chart, size_t index);
+
+/* Field `index` of a file's record 1: 1 is DSID, 2 is DSSI. */
+const uint8_t *header_field(const struct reading *reading, size_t index);
+
+/* Behind so many groups of subfields from `at` on. */
+const uint8_t *skip_groups(const uint8_t *at, const int8_t *runs, size_t count);
+size_t count_groups(const uint8_t *at, const uint8_t *end, const int8_t *runs);
+
+/* ---- the stages behind reading */
+
+/* Codes 17 to 19. */
+struct answer judge_topology(struct reading *chart);
+
+/* Codes 20 and 21; where they don't come, the held form is written. */
+struct answer hold(struct reading *chart, uint8_t *out, size_t out_length);
+
+/* What edits need beside the result that they add to. */
+struct editing {
+    struct result *result;
+    struct noted *noted;   /* for each ATTL where the update's list at hand has it */
+    uint32_t list;         /* the number of that list */
+    struct buffer brought; /* the entries that it brings, joined */
+};
+
+void editing_open(struct editing *editing, struct result *result);
+void editing_close(struct editing *editing);
+
+/* Whether the insert, or the delete, at hand keeps to its rule (16). */
+bool insert_allowed(const struct reading *update);
+bool delete_allowed(const struct reading *update);
+
+/* Adds what the modify at hand in the update makes of the record at hand in the cell. False where a rule of edits is broken (16). */
+bool edit_record(struct editing *editing, const struct reading *cell, const struct reading *update);
 
 /* ---- records written */
 

@@ -1,8 +1,6 @@
 /* The stages in document 01's order: cell 1, 2; update 1, 2; 3; cell 4, then 5 before 6 record by record, 7, 8; update 4, 5/6, 7. */
 #include "reader_parts.h"
 
-#include "buffer.h"
-
 #include <stdlib.h>
 
 enum { LONGEST_FILE = 5242880, WORK_A_RECORD = 16, LABELS = 65536 };

@@ -1,11 +1,12 @@
 /* "Topology (chain-node)": Shape, Pointer and Ring of every vector and feature, in held order. */
 #include "reader_parts.h"
 
-#include "buffer.h"
-
 #include <stdlib.h>
 
-enum { NONE = 255, ISOLATED = 110, CONNECTED = 120, EDGE = 130, FEATURE = 100, FIRST_PLACE = 3, MOST_STEPS = 99999 / 8 };
+enum { NONE = 255, ISOLATED = 110, CONNECTED = 120, EDGE = 130, FEATURE = 100, FIRST_PLACE = 3 };
+
+/* No area has more edges: a record of a file has 99,999 bytes at most, and an update can double it before the limit is asked for. */
+enum { MOST_STEPS = 2 * (99999 / 8) };
 
 /* An edge as an area's boundary runs along it. */
 struct step {
@@ -18,8 +19,8 @@ struct ends {
 };
 
 struct topology {
-    const struct reading *cell;
-    const uint8_t *bytes;
+    struct reading *chart;
+    const uint8_t *bytes; /* what the places below count from */
     struct field *fields; /* of the record at hand */
     size_t field_count;
     size_t first_edge;    /* in the names */
@@ -42,19 +43,18 @@ static struct entries entries_of(const struct topology *topology, const struct f
     return (struct entries){content, content + field->length - 1};
 }
 
-static void load(struct topology *topology, size_t start)
+static void load(struct topology *topology, size_t index)
 {
-    struct record record = reader_record(topology->bytes, start);
-    for (size_t i = 0; i < record.entries; i++)
-        topology->fields[i] = reader_field(topology->bytes, &record, i);
-    topology->field_count = record.entries;
+    load_item(topology->chart, index);
+    topology->bytes = topology->chart->from;
+    topology->field_count = topology->chart->field_count;
 }
 
 /* ---- Shape of vectors */
 
 static bool within(const struct topology *topology, struct entries entries, size_t size)
 {
-    int64_t north = 90 * (int64_t)topology->cell->comf, east = 2 * north;
+    int64_t north = 90 * (int64_t)topology->chart->comf, east = 2 * north;
     for (; entries.at < entries.end; entries.at += size) {
         int32_t y = (int32_t)number_at(entries.at, 4), x = (int32_t)number_at(entries.at + 4, 4);
         if (y < -north || y > north || x < -east || x > east)
@@ -163,7 +163,7 @@ static bool feature_shaped(const struct topology *topology)
 
 static size_t find_entry(const struct topology *topology, const uint8_t *name)
 {
-    return find_name(topology->cell, name[0], number_at(name + 1, 4));
+    return find_name(topology->chart, name[0], number_at(name + 1, 4));
 }
 
 /* The edge at `index` of the names; its ends are kept for the rings. */
@@ -262,21 +262,18 @@ static bool rings_close(const struct topology *topology)
     return true;
 }
 
-/* ---- the cell */
+/* ---- the chart */
 
-static void topology_open(struct topology *topology, struct reading *cell)
+static void topology_open(struct topology *topology, struct reading *chart)
 {
-    *topology = (struct topology){.cell = cell, .bytes = cell->bytes, .fields = cell->fields};
-    size_t nodes = (size_t)cell->counted[4] + cell->counted[5], edges = cell->counted[6], features = cell->name_count - nodes - edges;
+    *topology = (struct topology){.chart = chart, .fields = chart->fields};
+    size_t nodes = (size_t)chart->counted[4] + chart->counted[5], edges = chart->counted[6], features = chart->name_count - nodes - edges;
     topology->first_edge = nodes;
     topology->ends = grow(NULL, edges + 1, sizeof topology->ends[0]);
     topology->objects = grow(NULL, features + 1, sizeof topology->objects[0]);
     topology->steps = grow(NULL, MOST_STEPS, sizeof topology->steps[0]);
-    for (size_t i = nodes + edges; i < cell->name_count; i++) {
-        struct record record = reader_record(cell->bytes, record_of(cell->names[i]));
-        struct field object = reader_field(cell->bytes, &record, 2);
-        topology->objects[topology->object_count++] = object_at(cell->bytes + object.start);
-    }
+    for (size_t i = nodes + edges; i < chart->name_count; i++)
+        topology->objects[topology->object_count++] = object_at(object_of(chart, i));
     sort_words(topology->objects, topology->object_count);
 }
 
@@ -289,7 +286,7 @@ static void topology_close(struct topology *topology)
 
 static enum code judge_item(struct topology *topology, size_t index)
 {
-    load(topology, record_of(topology->cell->names[index]));
+    load(topology, index);
     uint8_t class = topology->bytes[topology->fields[1].start];
     if (class == FEATURE) {
         if (!feature_shaped(topology))
@@ -303,16 +300,17 @@ static enum code judge_item(struct topology *topology, size_t index)
     return class != EDGE || edge_points(topology, index) ? CODE_DONE : CODE_POINTER;
 }
 
-struct answer judge_topology(struct reading *cell)
+struct answer judge_topology(struct reading *chart)
 {
     struct topology topology;
     struct answer answer = {0};
-    topology_open(&topology, cell);
-    for (size_t i = 0; i < cell->name_count && answer.code == CODE_DONE; i++) {
+    bool result = chart->result != NULL;
+    topology_open(&topology, chart);
+    for (size_t i = 0; i < chart->name_count && answer.code == CODE_DONE; i++) {
         enum code code = judge_item(&topology, i);
         if (code != CODE_DONE)
-            answer = (struct answer){
-                .code = code, .file = 1, .record = (uint32_t)(FIRST_PLACE + i), .offset = (uint32_t)record_of(cell->names[i])};
+            answer = (struct answer){.code = code, .file = result ? 3 : 1, .record = (uint32_t)(FIRST_PLACE + i),
+                                     .offset = result ? 0 : (uint32_t)record_of(chart->names[i])};
     }
     topology_close(&topology);
     return answer;

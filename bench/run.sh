@@ -19,7 +19,7 @@ case "$name $* " in
     set -- "$@" -- ${emulator:+"$emulator"} "$tools/lib/ld-linux-x86-64.so.2" --library-path "$tools/lib" "$listing" ;;
 esac
 case $name in
-sanitize_* | compare_listing | make_harbour | write_held)
+sanitize_* | compare_listing | make_* | write_held)
     # Built for this very machine. Some kernels place memory where the address sanitizer wants its own; a fixed layout avoids that.
     if setarch "$(uname -m)" -R true 2>/dev/null; then
         exec setarch "$(uname -m)" -R "$program" "$@"

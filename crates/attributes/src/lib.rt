@@ -17,7 +17,7 @@ use octets::number::wide;
 use values::text::text_good_in;
 
 // The ATTL of the entry of n bytes at `at`.
-fn label_at(c: &[u8], at: usize, n: usize) -> usize
+pub fn label_at(c: &[u8], at: usize, n: usize) -> usize
     requires { ⌜ (3 ≤ n) × (at + n ≤ length (now c)) ⌝ }
     ensures { λ r. ⌜ (r ≡ labelOf (take n (drop at (now (c .entry))))) × (r < 65536) ⌝ }
 {
@@ -25,7 +25,7 @@ fn label_at(c: &[u8], at: usize, n: usize) -> usize
 }
 
 // Whether the value of the entry of n bytes at `at` is 7F alone.
-fn is_removal(c: &[u8], at: usize, n: usize) -> bool
+pub fn is_removal(c: &[u8], at: usize, n: usize) -> bool
     requires { ⌜ (3 ≤ n) × (at + n ≤ length (now c)) ⌝ }
     ensures { λ r. ⌜ r ≡ isRemoval (take n (drop at (now (c .entry)))) ⌝ }
 {

@@ -16,7 +16,7 @@ use Rattle.iso8211.specs.File.{frameOf, recordAt}
 use Rattle.iso8211.specs.declared.file.Framed.the-variants.{Records}
 use Rattle.iso8211.proofs.Promise.{at-next, last-ends}
 use Rattle.described.specs.Described.{describedOf}
-use Rattle.iso8211.specs.Field.{countAt, fieldAt, RecordIn}
+use Rattle.iso8211.specs.Field.{countAt, fieldAt, FieldsIn}
 use Rattle.iso8211.specs.declared.field.Field.{Field}
 use Rattle.table.specs.Table.{DSSI, DSPM, VRID, FRID}
 use Rattle.values.specs.Dssi.{dssiFault}
@@ -168,7 +168,7 @@ pub record Fair (update : Bool) (aall nall k : ℕ) (c : List ℕ) : Type 0 wher
   pub seen : List ℕ
   pub none : fieldFault update aall nall k seen c ≡ 0
 
-fair-from : (n : ℕ) (update : Bool) (aall nall : ℕ) (s : List ℕ) (at i prev : ℕ) (seen : List ℕ) → RecordIn s at → i + n ≤ countAt s at → valuesFrom n update aall nall s at i prev seen ≡ 0
+fair-from : (n : ℕ) (update : Bool) (aall nall : ℕ) (s : List ℕ) (at i prev : ℕ) (seen : List ℕ) → FieldsIn s at → i + n ≤ countAt s at → valuesFrom n update aall nall s at i prev seen ≡ 0
     → (j : ℕ) → i ≤ j → j < i + n → Fair update aall nall (kindAt s at j) (contentAt s at j)
 unfolding valuesFrom
 fair-from zero update aall nall s at i prev seen known fit h j lo hi = absurd (omega arith)
@@ -182,11 +182,11 @@ fair-from (suc n) update aall nall s at i prev seen known fit h j lo hi =
     (λ (n : fault ≡ 0 → ⊥).
     let start : fieldAt s at i .start + (fault - 1) ≡ 0 = rw (ne-eqb fault 0 n) at h in
     let after = known .fields i (omega arith) .after in
-    let low = known .framed .low in
+    let low = known .headed .low in
     absurd (omega arith))
     (eq-or-ne fault 0)
 
-pub fair : (update : Bool) (aall nall : ℕ) (s : List ℕ) (at : ℕ) → RecordIn s at → valueFault update aall nall s at ≡ 0 → (j : ℕ) → j < countAt s at → Fair update aall nall (kindAt s at j) (contentAt s at j)
+pub fair : (update : Bool) (aall nall : ℕ) (s : List ℕ) (at : ℕ) → FieldsIn s at → valueFault update aall nall s at ≡ 0 → (j : ℕ) → j < countAt s at → Fair update aall nall (kindAt s at j) (contentAt s at j)
 unfolding valueFault
 fair update aall nall s at known h j less = fair-from (countAt s at) update aall nall s at 0 start [] known (omega arith) h j (omega arith) (omega arith)
 

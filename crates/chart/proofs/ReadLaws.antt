@@ -17,7 +17,7 @@ use Rattle.iso8211.specs.Field.{countAt, fieldAt, FramedAt, FieldIn, RecordIn}
 use Rattle.iso8211.specs.File.{frameOf, recordAt}
 use Rattle.iso8211.specs.declared.field.Field.{Field}
 use Rattle.iso8211.specs.declared.file.Framed.the-variants.{Records}
-use Rattle.iso8211.proofs.Promise.{record-in, at-next, at-first}
+use Rattle.iso8211.proofs.Promise.{record-in, fields-in, at-next, at-first}
 use Rattle.table.specs.Table.{kindOf, FRID}
 use Rattle.attributes.specs.Attributes.{Upto}
 use Rattle.attributes.proofs.StampLaws.{upto-zeros, upto-more}
@@ -49,7 +49,7 @@ levels-room {s} {at} {stage} f p z e =
     let three = d .0 in
     let long = d .1 in
     let in2 = p .known .fields 2 (omega arith) in
-    let size = content-length s at 2 (p .known) (omega arith) in
+    let size = content-length s at 2 (fields-in (p .known)) (omega arith) in
     let within = in2 .within in
     let fits = p .known .framed .fits in
     rw e (omega arith)

@@ -113,7 +113,7 @@ pub count-few : (s : List ℕ) (at : ℕ) → FramedAt s at → at + countAt s a
 count-few s at f =
     let w = rowWidth (lengthDigits s at) (positionDigits s at) in
     let step : countAt s at * 1 ≤ countAt s at * w = mul-le-mul-left (countAt s at) (omega arith) in
-    let whole = f .whole in
+    let whole = f .headed .whole in
     let high = f .high in
     omega arith
 
@@ -209,7 +209,7 @@ walked-end {update} {aall} {nall} {s} {at} {before} {t} {j} {prev} {stamp} w fra
 }
 
 -- ---- a field of a record that is laid out
-pub field-facts : {s : List ℕ} {at : ℕ} (j : ℕ) (f : Field) → Full s at → j < countAt s at → f ≡ fieldAt s at j → FieldIn s at f
+pub field-facts : {s : List ℕ} {at : ℕ} (j : ℕ) (f : Field) → Full s at → j < countAt s at → f ≡ fieldAt s at j → FieldIn s at (endOf s at) f
 field-facts j f full less e = rw e (full .known .fields j less)
 
 -- its content, lent
@@ -219,5 +219,5 @@ lent-content s f = let e : f .start + (f .length - 1) - f .start ≡ f .length -
 pub lent-filled : {s : List ℕ} {at : ℕ} (j k : ℕ) (f : Field) → Full s at → j < countAt s at → f ≡ fieldAt s at j → k ≡ kindOf (f .tag) → filled k (take (f .start + (f .length - 1) - f .start) (drop (f .start) s)) ≡ true
 lent-filled {s} {at} j k f full less e g = rw (lent-content s f, g, e) (full .full j less)
 
-pub lent-length : {s : List ℕ} {at : ℕ} (f : Field) → FieldIn s at f → endOf s at ≤ length s → length (take (f .start + (f .length - 1) - f .start) (drop (f .start) s)) ≡ f .length - 1
+pub lent-length : {s : List ℕ} {at : ℕ} (f : Field) → FieldIn s at (endOf s at) f → endOf s at ≤ length s → length (take (f .start + (f .length - 1) - f .start) (drop (f .start) s)) ≡ f .length - 1
 lent-length {s} {at} f i fits = let long = i .long in let within = i .within in rw (length-take, length-drop) (omega arith)

@@ -11,9 +11,8 @@ use lib.Dec.{eqb, ltb}
 use borrow.Author.Tests.{le-ltb, eq-eqb, ne-eqb, ltb-false, eqb-true, eqb-false}
 use Rattle.octets.proofs.Cases.{true-or-false}
 use Rattle.iso8211.specs.File.{frameOf}
-use Rattle.iso8211.specs.declared.file.Framed.{Framed}
-use Rattle.iso8211.specs.declared.file.Framed.the-variants.{Records, Broken}
-use Rattle.reader.specs.Reader.{answer, filed, firstRefusal, framedFront, frontOf, cellFault, workAnswer}
+use Rattle.iso8211.specs.declared.file.Framed.the-variants.{Records}
+use Rattle.reader.specs.Reader.{answer, filed, firstRefusal, frontOf, cellFault, workAnswer}
 use Rattle.reader.specs.declared.answer.Answer.{Answer}
 use Rattle.reader.specs.declared.front.Front.{Front}
 use Rattle.reader.specs.declared.front.Front.the-variants.{Count, Refused}
@@ -22,17 +21,18 @@ use Rattle.held.specs.Chart.{Chart, chartOf}
 use Rattle.held.specs.Held.{heldOf}
 use Rattle.held.specs.Limits.{fits, Fits, recordCount}
 use Rattle.held.proofs.LimitsLaws.{fits-told, fits-tested}
-use Rattle.held.proofs.CellLaws.{cell-told}
 use Rattle.loader.specs.Judge.{cellVerdict}
 use Rattle.loader.specs.Admit.{heldAnswer, written, admitChecked, checkedArea, admitFront, areaFront, admitOf, admitArea}
 use Rattle.loader.proofs.AdmitLaws.{verdict-told, fault-told}
-use Rattle.demands.specs.Verdict.{chartTopology, Good}
+use Rattle.verdict.specs.Verdict.{chartTopology}
+use Rattle.demands.specs.Verdict.{Good}
 use Rattle.demands.specs.Cell.{Bytes, recordsIn, countIn, Readable, cellChart, Room}
+use Rattle.demands.proofs.FileLaws.{front-framed, front-refused, cell-good}
 use Rattle.demands.proofs.TopologyLaws.{cell-topology}
 use Rattle.demands.proofs.ReadsBack.{held-admitted, held-again}
 
 -- ---- out of an answer 0
-held-told : (o : ℕ) (c : Chart) → heldAnswer o c .code ≡ 0 → (fits c ≡ true) × (length (heldOf c) ≤ o) × (heldAnswer o c ≡ answer 0 0 0 (length (heldOf c)) 0)
+pub held-told : (o : ℕ) (c : Chart) → heldAnswer o c .code ≡ 0 → (fits c ≡ true) × (length (heldOf c) ≤ o) × (heldAnswer o c ≡ answer 0 0 0 (length (heldOf c)) 0)
 unfolding heldAnswer
 held-told o c h =
     ⊎-elim (λ (f : fits c ≡ true).
@@ -66,32 +66,17 @@ record Accepted (s : List ℕ) (w o : ℕ) : Type 0 where
   short : length s ≤ 5242880
   taken : Taken s w o (countIn s)
 
-front-told : (s : List ℕ) (w o : ℕ) (f : Framed) → frameOf s ≡ f → length s ≤ 5242880 → frontOf 1 s ≡ framedFront 1 s f → admitFront s w o (framedFront 1 s f) .code ≡ 0
-    → Accepted s w o
-unfolding admitFront framedFront recordsIn
-front-told s w o (Records n) e short is h =
-    let count : countIn s ≡ n = ap recordsIn is in
-    record { opened = rw count is; framed = rw count e; short = short; taken = rw count (checked-told s w o n h) }
-front-told s w o (Broken k) e short is h = absurd (let z : _≡_ {A = ℕ} 2 0 = h in omega arith)
-
-long-none : (s : List ℕ) (w o : ℕ) → admitFront s w o (Refused (answer 1 1 0 0 0)) .code ≡ 0 → ⊥
-unfolding admitFront
-long-none s w o h = let z : _≡_ {A = ℕ} 1 0 = h in omega arith
-
-front-short : (s : List ℕ) → ltb 5242880 (length s) ≡ false → frontOf 1 s ≡ framedFront 1 s (frameOf s)
-unfolding frontOf
-front-short s x = rw x
-
-front-long : (s : List ℕ) → ltb 5242880 (length s) ≡ true → frontOf 1 s ≡ Refused (answer 1 1 0 0 0)
-unfolding frontOf
-front-long s x = rw x
+front-told : (s : List ℕ) (w o : ℕ) (f : Front) → frontOf 1 s ≡ f → admitFront s w o f .code ≡ 0 → (frontOf 1 s ≡ Count (recordsIn f)) × Taken s w o (recordsIn f)
+unfolding admitFront recordsIn
+front-told s w o (Count n) e h = (e, checked-told s w o n h)
+front-told s w o (Refused a) e h = absurd (front-refused 1 s a e h)
 
 accepted : (s : List ℕ) (w o : ℕ) → admitOf s w o .code ≡ 0 → Accepted s w o
 unfolding admitOf
 accepted s w o h =
-    ⊎-elim (λ (x : ltb 5242880 (length s) ≡ true). absurd (long-none s w o (rw (front-long s x) at h)))
-    (λ (x : ltb 5242880 (length s) ≡ false). front-told s w o (frameOf s) refl (ltb-false 5242880 (length s) x) (front-short s x) (rw (front-short s x) at h))
-    (true-or-false (ltb 5242880 (length s)))
+    let p = front-told s w o (frontOf 1 s) refl h in
+    let q = front-framed 1 s (countIn s) (p .0) in
+    record { opened = p .0; framed = q .0; short = q .1; taken = p .1 }
 
 -- ---- the verdict, in two parts
 verdict-parts : (s : List ℕ) (n : ℕ) → cellVerdict s n .code ≡ 0 → (cellFault s n .code ≡ 0) × (topologyFault s n .code ≡ 0)
@@ -128,17 +113,6 @@ area-kept s w out (Count n) e ne = rw e (kept (rw e at ne))
     kept h = rw (ne-eqb (admitChecked s w (length out) n .code) 0 h)
 area-kept s w out (Refused a) e ne = rw e
 
--- a file that is opened is framed and not too long
-framed-front : (s : List ℕ) (n : ℕ) (f : Framed) → framedFront 1 s f ≡ Count n → f ≡ Records n
-unfolding framedFront
-framed-front s n (Records k) h = cc
-framed-front s n (Broken k) h = absurd (let z : _≡_ {A = ℕ} 0 1 = cc in omega arith)
-
-front-framed : (s : List ℕ) (n : ℕ) → frontOf 1 s ≡ Count n → (frameOf s ≡ Records n) × (length s ≤ 5242880)
-front-framed s n h =
-    ⊎-elim (λ (x : ltb 5242880 (length s) ≡ true). absurd (let e = sym (front-long s x) ∙ h in let z : _≡_ {A = ℕ} 0 1 = cc in omega arith))
-    (λ (x : ltb 5242880 (length s) ≡ false). (framed-front s n (frameOf s) (sym (front-short s x) ∙ h), ltb-false 5242880 (length s) x)) (true-or-false (ltb 5242880 (length s)))
-
 -- ---- `admitted-exactly`
 pub record Admissible (s : List ℕ) (w o : ℕ) : Type 0 where
   pub readable : Readable s
@@ -169,7 +143,7 @@ admitted-all s w o bytes a = ap (λ (x : Answer). x .code) (opened-answer (a .re
     opened-answer e = admit-opened s w o n e
 
     framed : (frameOf s ≡ Records n) × (length s ≤ 5242880)
-    framed = front-framed s n (a .readable .opened)
+    framed = front-framed 1 s n (a .readable .opened)
 
     verdict : cellVerdict s n .code ≡ 0
     verdict =
@@ -206,10 +180,8 @@ admit-refuses s w out ne = area-kept s w out (frontOf 1 s) refl ne
 -- ---- Admit on what Admit wrote writes the same
 pub admitted-good : (s : List ℕ) (w o : ℕ) → Bytes s → admitOf s w o .code ≡ 0 → Good (cellChart s)
 admitted-good s w o bytes h =
-    let a = accepted s w o h in
-    let told = verdict-told s (countIn s) (a .taken .verdict) in
     let m = admitted-only s w o bytes h in
-    record { values = cell-told s (countIn s) (a .framed) (a .short) (bytes .small) (told .read) (told .once) .good; topology = m .topology; limits = m .limits }
+    record { values = cell-good s bytes (m .readable); topology = m .topology; limits = m .limits }
 
 pub admit-again : (s : List ℕ) (w o : ℕ) → Bytes s → admitOf s w o .code ≡ 0 → (v : ℕ) (out : List ℕ) → 16 * recordCount (cellChart s) ≤ v
     → length (heldOf (cellChart s)) ≤ length out

@@ -1,5 +1,12 @@
--- The demands' theorems, and the laws behind them: ReadsBack and Admit are what the owner reads.
-pub mod AlikeLaws
+-- The demands' theorems, and the laws behind them: ReadsBack, Admit, Updated and Apply are what the owner reads.
+pub mod FileLaws
 pub mod TopologyLaws
+pub mod SoundLaws
+pub mod AllLaws
+pub mod HeldBytes
+pub mod ChartBytes
 pub mod ReadsBack
 pub mod Admit
+pub mod Updated
+pub mod Apply
+pub mod Whole

@@ -27,7 +27,7 @@ module _ (c : Chart) (good : Good c) where
   unfolding frontOf framedFront
   held-opened = rw (le-ltb 5242880 (length (heldOf c)) (good .limits .short), there .framed)
 
-  held-count : countIn (heldOf c) ≡ recordCount c
+  pub held-count : countIn (heldOf c) ≡ recordCount c
   unfolding recordsIn
   held-count = ap recordsIn held-opened
 

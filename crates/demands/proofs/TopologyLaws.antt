@@ -26,8 +26,8 @@ use Rattle.held.proofs.OrderLaws.{Apart, ordered-apart}
 use Rattle.held.proofs.ReadsBack.{reads-back}
 use Rattle.held.proofs.CellLaws.{cell-told}
 use Rattle.reissue.proofs.WordLaws.{sorted-objects}
-use Rattle.demands.specs.Verdict.{chartTopology}
-use Rattle.demands.proofs.AlikeLaws.{topology-alike, items-alike}
+use Rattle.verdict.specs.Verdict.{chartTopology}
+use Rattle.verdict.proofs.AlikeLaws.{topology-alike, items-alike}
 
 -- COMF of the file is COMF of its chart
 comf-seen : (s : List ℕ) (n : ℕ) → GoodChart (chartOf s n) → numAt (chartOf s n .header .dspm) 16 4 ≡ comfAt s

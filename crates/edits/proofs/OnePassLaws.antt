@@ -54,7 +54,7 @@ module _ {E : Type 0} (label : E → ℕ) (removes : E → Bool) where
   worked-none [] = refl
   worked-none (e ∷ es) = ap (λ (l : List E). e ∷ l) (worked-none es)
 
-  instead-none : (e : E) (brought : List E) → named label (label e) brought ≡ false → instead label removes e brought ≡ e ∷ []
+  pub instead-none : (e : E) (brought : List E) → named label (label e) brought ≡ false → instead label removes e brought ≡ e ∷ []
   unfolding instead named
   instead-none e [] out = refl
   instead-none e (a ∷ more) out = let p = neither (eqb (label a) (label e)) (named label (label e) more) out in rw (p .0) (instead-none e more (p .1))

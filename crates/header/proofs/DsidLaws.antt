@@ -1,13 +1,13 @@
--- A good DSID, written with the fewest digits, is good and says the same. Assumes nothing.
+-- A good DSID, written with the fewest digits, is good and says the same, also with another UPDN and other dates. Assumes nothing.
 use Prim.Native.Nat.{ℕ, zero, suc, _+_, _-_, _*_, _/_, _%_, _^_, _≤_, _<_}
 use mathlib.Core.Bool.{Bool, true, false, _&&_}
 use mathlib.Core.List.{List, [], _∷_, _++_, append-assoc}
 use mathlib.Core.Logic.{⊎-elim}
 use mathlib.Core.Path.{_≡_, refl, sym, ap, _∙_}
-use native.Mathlib.Nat.{add-zero, add-assoc}
+use native.Mathlib.Nat.{add-zero}
 use native.Mathlib.Omega.{arith}
-use lib.ListN.{length, take, drop, take-append-drop, length-append, length-drop, List·getD-append}
-use lib.Seq.{getD-take, getD-drop, drop-at, drop-drop, drop-append-le, length-take-le}
+use lib.ListN.{length, take, drop, length-append, length-drop, List·getD-append}
+use lib.Seq.{getD-take, getD-drop, take-at, drop-at, drop-drop, drop-append-le, length-take-le}
 use lib.Dec.{eqb, leb}
 use borrow.Author.Tests.{eq-eqb, ne-eqb, le-leb, eqb-true, leb-true}
 use Rattle.octets.specs.Number.{byteAt, numAt}
@@ -25,8 +25,8 @@ use Rattle.values.specs.Date.{dateGood}
 use Rattle.values.specs.Dsid.{dsnmEnd, edtnEnd, updnEnd, psdnEnd, predEnd, comtEnd, dsidEnds, DsidLaid, dsidLaid, codesAt, dsnmGood, edtnGood}
 use Rattle.values.specs.Dsid.{updnDigits, updnGood, uadtGood, stedGood, predGood, headFault, namesFault, issueFault, productFault, dsidOver, dsidFault}
 use Rattle.values.proofs.DsidLaws.{dsid-laid}
-use Rattle.header.specs.Dsid.{Dsid, shortest, editionIn, numberIn, dsidWith, dsidOf, dsidBytes}
-use Rattle.header.specs.Known.{Known}
+use Rattle.header.specs.Dsid.{Dsid, shortest, editionIn, numberIn, dsidWith, dsidOf, dsidBytes, revised}
+use Rattle.header.specs.Known.{Known, dated}
 use Rattle.objects.proofs.IdLaws.{has-self}
 use Rattle.objects.proofs.ReadLaws.{none-first, none-at}
 
@@ -54,12 +54,14 @@ moved-on {s} {t} {i} {j} k m = record { is = sym (drop-drop k i s) ∙ ap (drop 
 moved-byte : {s t : List ℕ} {i j : ℕ} (k : ℕ) → Moved s i t j → byteAt s (i + k) ≡ byteAt t (j + k)
 moved-byte {s} {t} {i} {j} k m = sym (getD-drop i s k 0) ∙ ap (λ (l : List ℕ). byteAt l k) (m .is) ∙ getD-drop j t k 0
 
+moved-first : {s t : List ℕ} {i j : ℕ} → Moved s i t j → byteAt s i ≡ byteAt t j
+moved-first {s} {t} {i} {j} m = ap (byteAt s) (sym (add-zero i)) ∙ moved-byte 0 m ∙ ap (byteAt t) (add-zero j)
+
 digits-moved : (n led : ℕ) {s t : List ℕ} {i j : ℕ} → Moved s i t j → digitsFrom n s i led ≡ digitsFrom n t j led
 unfolding digitsFrom
 digits-moved zero led m = refl
 digits-moved (suc n) led {s} {t} {i} {j} m =
-    let b : byteAt s i ≡ byteAt t j = ap (byteAt s) (sym (add-zero i)) ∙ moved-byte 0 m ∙ ap (byteAt t) (add-zero j) in
-    rw (b, digits-moved n (led * 10 + (byteAt t j - 48)) (moved-on 1 m))
+    rw (moved-first m, digits-moved n (led * 10 + (byteAt t j - 48)) (moved-on 1 m))
 
 number-moved : {s t : List ℕ} (n i j : ℕ) → Moved s i t j → numberAt s i n ≡ numberAt t j n
 unfolding numberAt
@@ -75,9 +77,7 @@ date-moved i j m = rw (number-moved 4 i j m, number-moved 2 (i + 4) (j + 4) (mov
 
 sted-moved : {s t : List ℕ} (i j : ℕ) → Moved s i t j → stedGood s i ≡ stedGood t j
 unfolding stedGood
-sted-moved {s} {t} i j m =
-    let b : byteAt s i ≡ byteAt t j = ap (byteAt s) (sym (add-zero i)) ∙ moved-byte 0 m ∙ ap (byteAt t) (add-zero j) in
-    rw (b, moved-byte 1 m, moved-byte 2 m, moved-byte 3 m)
+sted-moved i j m = rw (moved-first m, moved-byte 1 m, moved-byte 2 m, moved-byte 3 m)
 
 fine-first : (a b : ℕ) → a ≡ 0 → b ≡ 0 → fault.first a b ≡ 0
 unfolding fault.first
@@ -86,17 +86,6 @@ fine-first a b e f = rw (e, f)
 fine-at : (i : ℕ) (good : Bool) → good ≡ true → faultAt i good ≡ 0
 unfolding faultAt
 fine-at i good e = rw e
-
-issue-moved : {s t : List ℕ} (i j : ℕ) → Moved s i t j → issueFault false t j ≡ 0 → issueFault false s i ≡ 0
-unfolding issueFault uadtGood
-issue-moved {s} {t} i j m h =
-    let a = none-first _ _ h in
-    let b = none-first _ _ (a .1) in
-    let c = none-first _ _ (b .1) in
-    fine-first _ _ (fine-at i _ (date-moved i j m ∙ none-at _ _ (a .0)))
-    (fine-first _ _ (fine-at (i + 8) _ (date-moved (i + 8) (j + 8) (moved-on 8 m) ∙ none-at _ _ (b .0)))
-    (fine-first _ _ (fine-at (i + 16) _ (sted-moved (i + 16) (j + 16) (moved-on 16 m) ∙ none-at _ _ (c .0)))
-    (fine-at (i + 20) _ (rw (moved-byte 20 m) (none-at _ _ (c .1))))))
 
 -- ---- the front: RCNM to DSNM
 pub record Same (n : ℕ) (s t : List ℕ) : Type 0 where
@@ -231,28 +220,38 @@ number-is : (d : List ℕ) → numberIn d ≡ numberAt d (edtnEnd d + 1) (updnEn
 unfolding numberIn
 number-is d = refl
 
--- ---- what stands behind UPDN, in its three parts
-three-parts : (q : ℕ) (d : List ℕ) → take 8 (drop q d) ++ (take 8 (drop (q + 8) d) ++ drop (q + 16) d) ≡ drop q d
-three-parts q d =
-    let second : drop (q + 16) d ≡ drop 8 (drop (q + 8) d) = ap (λ (k : ℕ). drop k d) (let e : q + 16 ≡ q + 8 + 8 = omega arith in e) ∙ sym (drop-drop 8 (q + 8) d) in
-    rw (second, take-append-drop 8 (drop (q + 8) d), ← (drop-drop 8 q d)) (take-append-drop 8 (drop q d))
+-- ---- a value that is written as a good DSID that says the same
+pub record DsidBack (h : Dsid) : Type 0 where
+  pub laid : dsidLaid (dsidBytes h) ≡ true
+  pub fine : dsidFault false (dsidBytes h) ≡ 0
+  pub back : dsidOf (dsidBytes h) ≡ h
 
--- what is written for a DSID's value: its front, the two numbers, and all that stood behind them
-pub dsid-written : (d : List ℕ) → dsidBytes (dsidOf d) ≡ dsidWith (take 20 d) (editionIn d) (numberIn d) (drop (updnEnd d + 1) d)
-unfolding dsidBytes dsidOf
-dsid-written d =
-    let a : updnEnd d + 9 ≡ updnEnd d + 1 + 8 = omega arith in
-    let b : updnEnd d + 17 ≡ updnEnd d + 1 + 16 = omega arith in
-    ap (dsidWith (take 20 d) (editionIn d) (numberIn d)) (rw (a, b) (three-parts (updnEnd d + 1) d))
+-- ---- dates
+-- eight bytes that are a date
+pub record Dated (x : List ℕ) : Type 0 where
+  pub long : length x ≡ 8
+  pub date : dateGood x 0 ≡ true
 
--- ---- a good DSID, written with the fewest digits
+date-same : {s t : List ℕ} → Same 8 s t → dateGood s 0 ≡ dateGood t 0
+unfolding dateGood numberAt
+date-same e = rw (digits-same 0 4 0 (omega arith) e, digits-same 4 2 0 (omega arith) e, digits-same 6 2 0 (omega arith) e)
+
+-- a date in front of other bytes
+date-front : (x ys : List ℕ) → Dated x → dateGood (x ++ ys) 0 ≡ true
+date-front x ys so = date-same (record { byte = λ k h. List·getD-append x ys 0 k (let l = so .long in omega arith) }) ∙ so .date
+
+-- a date inside
+date-inside : (d : List ℕ) (i : ℕ) → i + 8 ≤ length d → dateGood d i ≡ true → Dated (take 8 (drop i d))
+date-inside d i room so = record {
+  long = length-take-le 8 (drop i d) (omega (arith, length-drop i d));
+  date = date-same (record { byte = λ k h. getD-take 8 (drop i d) k 0 h }) ∙ date-moved 0 i (record { is = refl }) ∙ so;
+}
+
+-- ---- a good DSID
 module _ (d : List ℕ) (filled : DsidLaid d) (g : DsidGood d) where
   nineteen : dsnmEnd d ≡ 19
   unfolding dsnmGood
   nineteen = eqb-true (dsnmEnd d) 19 (both (eqb (dsnmEnd d) 19) _ (g .name) .0)
-
-  abbrev q : ℕ
-  q = updnEnd d + 1
 
   order : (19 < edtnEnd d) × (edtnEnd d < updnEnd d) × (updnEnd d + 22 ≤ psdnEnd d) × (psdnEnd d < predEnd d) × (predEnd d + 4 ≤ comtEnd d) × (comtEnd d + 1 ≡ length d)
   unfolding dsidEnds
@@ -261,87 +260,9 @@ module _ (d : List ℕ) (filled : DsidLaid d) (g : DsidGood d) where
   front-long : length (take 20 d) ≡ 20
   front-long = let o = order in length-take-le 20 d (omega arith)
 
-  abbrev n : List ℕ
-  n = dsidWith (take 20 d) (editionIn d) (numberIn d) (drop q d)
-
-  -- the first text ends where it did
   until-name : untilEnd (drop 7 d) ≡ 12
   unfolding textEnd
   until-name = let e = nineteen in omega arith
-
-  name-end : textEnd n 7 ≡ 19
-  unfolding textEnd dsidWith
-  name-end =
-      let o = order in
-      let rest = shortest (editionIn d) ++ (31 ∷ (shortest (numberIn d) ++ (31 ∷ drop q d))) in
-      rw (drop-append-le 7 (take 20 d) rest (rw front-long (omega arith)), drop-take 7 13 d, until-take 13 (drop 7 d) rest (rw until-name (omega arith)) (rw length-drop (omega arith)), until-name)
-
-  abbrev x : ℕ
-  x = fewest (editionIn d)
-
-  abbrev y : ℕ
-  y = fewest (numberIn d)
-
-  edition-ends : edtnEnd n ≡ 20 + x
-  edition-ends = rw name-end (edition-end (take 20 d) (editionIn d) (numberIn d) (drop q d) front-long)
-
-  number-ends : updnEnd n ≡ 21 + x + y
-  number-ends = ap (λ (i : ℕ). textEnd n (i + 1)) edition-ends ∙ shift (20 + x + 1) (21 + x) (omega arith) ∙ number-end (take 20 d) (editionIn d) (numberIn d) (drop q d) front-long
-    where
-      shift : (i j : ℕ) → i ≡ j → textEnd n i ≡ textEnd n j
-      shift i j e = rw e
-
-  -- what stands behind UPDN is what stood there
-  back-moved : Moved n (22 + x + y) d q
-  back-moved = record { is = drop-back (take 20 d) (editionIn d) (numberIn d) (drop q d) front-long }
-
-  moved-to : {i j : ℕ} (u w : ℕ) → Moved n i d j → i ≤ u → w + i ≡ u + j → Moved n u d w
-  moved-to {i} {j} u w m le e =
-      let a1 : i + (u - i) ≡ u = omega arith in
-      let a2 : j + (u - i) ≡ w = omega arith in
-      rw (a1, a2) at (moved-on (u - i) m)
-
-  -- the texts behind end as far behind
-  psdn-moved : psdnEnd n + q ≡ psdnEnd d + (22 + x + y)
-  psdn-moved =
-      let e = number-ends in
-      let m : Moved n (updnEnd n + 22) d (updnEnd d + 22) = moved-to (updnEnd n + 22) (updnEnd d + 22) back-moved (omega arith) (omega arith) in
-      omega (arith, end-moved m)
-
-  pred-moved : predEnd n + q ≡ predEnd d + (22 + x + y)
-  pred-moved =
-      let e = number-ends in
-      let p = psdn-moved in
-      let o = order in
-      let o2 = o .2 in
-      let m : Moved n (psdnEnd n + 1) d (psdnEnd d + 1) = moved-to (psdnEnd n + 1) (psdnEnd d + 1) back-moved (omega arith) (omega arith) in
-      omega (arith, end-moved m)
-
-  comt-moved : comtEnd n + q ≡ comtEnd d + (22 + x + y)
-  comt-moved =
-      let p = pred-moved in
-      let o = order in
-      let o2 = o .2 in
-      let o3 = o .3 in
-      let m : Moved n (predEnd n + 4) d (predEnd d + 4) = moved-to (predEnd n + 4) (predEnd d + 4) back-moved (omega arith) (omega arith) in
-      omega (arith, end-moved m)
-
-  pub written-laid : dsidLaid n ≡ true
-  unfolding dsidLaid
-  written-laid =
-      let o = order in
-      let o1 = o .1 in
-      let o2 = o .2 in
-      let o3 = o .3 in
-      let o4 = o .4 in
-      let o5 = o .5 in
-      let c = comt-moved in
-      let l = dsid-length (take 20 d) (editionIn d) (numberIn d) (drop q d) front-long in
-      let k : length (drop q d) ≡ length d - q = length-drop q d in
-      eq-eqb (comtEnd n + 1) (length n) (omega arith)
-
-  same-front : Same 20 n d
-  same-front = record { byte = λ k h. front-same (take 20 d) (editionIn d) (numberIn d) (drop q d) front-long .byte k h ∙ getD-take 20 d k 0 h }
 
   edition-range : (1 ≤ editionIn d) × (editionIn d ≤ 9999)
   unfolding editionIn edtnGood digitsWithin within
@@ -360,95 +281,21 @@ module _ (d : List ℕ) (filled : DsidLaid d) (g : DsidGood d) where
       let p = all3 (leb 1 w) (leb w 3) (leb 0 v0 && leb v0 999) (g .number) in
       leb-true _ _ (both (leb 0 v0) (leb v0 999) (p .2) .1)
 
-  edition-good : edtnGood n (dsnmEnd n + 1) (edtnEnd n) ≡ true
-  unfolding edtnGood digitsWithin within
-  edition-good =
-      let r = edition-range in
-      let low = r .0 in
-      let high = r .1 in
-      let some = fewest-some (editionIn d) in
-      let most : x ≤ 4 = fewest-most 3 (editionIn d) (omega arith) in
-      let wide : 20 + x - (19 + 1) ≡ x = omega arith in
-      let e = edition-ends in
-      let m = name-end in
-      let read : numberAt n 20 x ≡ editionIn d = edition-read (take 20 d) (editionIn d) (numberIn d) (drop q d) front-long in
-      rw (e, m, wide, le-leb 1 x some, le-leb x 4 most, read, le-leb 1 (editionIn d) low, le-leb (editionIn d) 9999 high)
-
-  number-good : updnDigits false n (edtnEnd n + 1) (updnEnd n) ≡ true
-  unfolding updnDigits digitsWithin within
-  number-good =
-      let high = number-range in
-      let some = fewest-some (numberIn d) in
-      let most : y ≤ 3 = fewest-most 2 (numberIn d) (omega arith) in
-      let from : edtnEnd n + 1 ≡ 21 + x = (let e = edition-ends in omega arith) in
-      let wide : 21 + x + y - (21 + x) ≡ y = omega arith in
-      let read : numberAt n (21 + x) y ≡ numberIn d = nu-read (take 20 d) (editionIn d) (numberIn d) (drop q d) front-long in
-      let z : 0 ≤ numberIn d = omega arith in
-      rw (number-ends, from, wide, le-leb 1 y some, le-leb y 3 most, read, le-leb 0 (numberIn d) z, le-leb (numberIn d) 999 high)
-
-  product-good : productFault false n (dsidEnds n) ≡ 0
-  unfolding productFault dsidEnds predGood
-  product-good =
+  applied-good : Dated (take 8 (drop (updnEnd d + 1) d))
+  unfolding issueFault uadtGood
+  applied-good =
       let o = order in
-      let o2 = o .2 in
-      let o3 = o .3 in
-      let o4 = o .4 in
-      let e = number-ends in
-      let ps = psdn-moved in
-      let pr = pred-moved in
-      let co = comt-moved in
-      let h = g .product in
-      let a = none-first _ _ h in
+      let a = none-first _ _ (g .issue) in
+      date-inside d (updnEnd d + 1) (omega arith) (none-at _ _ (a .0))
+
+  issued-good : Dated (take 8 (drop (updnEnd d + 9) d))
+  unfolding issueFault uadtGood
+  issued-good =
+      let o = order in
+      let a = none-first _ _ (g .issue) in
       let b = none-first _ _ (a .1) in
-      let c = none-first _ _ (b .1) in
-      let empty : psdnEnd d ≡ updnEnd d + 22 = eqb-true _ _ (none-at _ _ (a .0)) in
-      let m1 : Moved n (psdnEnd n + 1) d (psdnEnd d + 1) = moved-to (psdnEnd n + 1) (psdnEnd d + 1) back-moved (omega arith) (omega arith) in
-      let m2 : Moved n (predEnd n + 1) d (predEnd d + 1) = moved-to (predEnd n + 1) (predEnd d + 1) back-moved (omega arith) (omega arith) in
-      let m4 : Moved n (predEnd n + 4) d (predEnd d + 4) = moved-to (predEnd n + 4) (predEnd d + 4) back-moved (omega arith) (omega arith) in
-      let pg = none-at _ _ (b .0) in
-      let pq = both (eqb (predEnd d) (psdnEnd d + 1 + 3)) _ pg in
-      let pe : predEnd d ≡ psdnEnd d + 1 + 3 = eqb-true _ _ (pq .0) in
-      let front0 : byteAt n (psdnEnd n + 1) ≡ byteAt d (psdnEnd d + 1) = ap (byteAt n) (sym (add-zero (psdnEnd n + 1))) ∙ moved-byte 0 m1 ∙ ap (byteAt d) (add-zero (psdnEnd d + 1)) in
-      let prof : byteAt n (predEnd n + 1) ≡ byteAt d (predEnd d + 1) = ap (byteAt n) (sym (add-zero (predEnd n + 1))) ∙ moved-byte 0 m2 ∙ ap (byteAt d) (add-zero (predEnd d + 1)) in
-      let size : comtEnd n - (predEnd n + 4) ≡ comtEnd d - (predEnd d + 4) = omega arith in
-      fine-first _ _ (fine-at (updnEnd n + 22) _ (eq-eqb (psdnEnd n) (updnEnd n + 22) (omega arith)))
-      (fine-first _ _ (fine-at (psdnEnd n + 1) _ (rw (eq-eqb (predEnd n) (psdnEnd n + 1 + 3) (omega arith), front0, moved-byte 1 m1, moved-byte 2 m1) (pq .1)))
-      (fine-first _ _ (fine-at (predEnd n + 1) _ (rw prof (none-at _ _ (c .0))))
-      (fine-at (predEnd n + 4) _ (rw (size, m4 .is) (none-at _ _ (c .1))))))
-
-  pub written-fine : dsidFault false n ≡ 0
-  written-fine = good-dsid n (record {
-    head = head-same same-front ∙ g .head;
-    name = rw name-end (name-same 19 same-front ∙ rw nineteen at (g .name));
-    edition = edition-good;
-    number = number-good;
-    issue = issue-moved (updnEnd n + 1) q (let e = number-ends in moved-to (updnEnd n + 1) q back-moved (omega arith) (omega arith)) (g .issue);
-    product = product-good;
-  })
-
-  edition-again : editionIn n ≡ editionIn d
-  edition-again =
-      let wide : 20 + x - (19 + 1) ≡ x = omega arith in
-      edition-is n ∙ rw (edition-ends, name-end, wide) (edition-read (take 20 d) (editionIn d) (numberIn d) (drop q d) front-long)
-
-  number-again : numberIn n ≡ numberIn d
-  number-again =
-      let from : edtnEnd n + 1 ≡ 21 + x = (let e = edition-ends in omega arith) in
-      let wide : 21 + x + y - (21 + x) ≡ y = omega arith in
-      number-is n ∙ rw (number-ends, from, wide) (nu-read (take 20 d) (editionIn d) (numberIn d) (drop q d) front-long)
-
-  back-again : drop (updnEnd n + 1) n ≡ drop q d
-  back-again = (let e = number-ends in moved-to (updnEnd n + 1) q back-moved (omega arith) (omega arith)) .is
-
-  -- what stands k bytes behind UPDN's 1F
-  behind : (k : ℕ) → drop (updnEnd n + (1 + k)) n ≡ drop (updnEnd d + (1 + k)) d
-  behind k =
-      ap (λ (i : ℕ). drop i n) (sym (add-assoc (updnEnd n) 1 k)) ∙ sym (drop-drop k (updnEnd n + 1) n) ∙ ap (drop k) back-again ∙ drop-drop k q d
-      ∙ ap (λ (i : ℕ). drop i d) (add-assoc (updnEnd d) 1 k)
-
-  pub written-back : dsidOf n ≡ dsidOf d
-  unfolding dsidOf
-  written-back = rw (edition-again, number-again, behind 0, behind 8, behind 16, take-front (take 20 d) (editionIn d) (numberIn d) (drop q d) front-long)
+      let e : updnEnd d + 1 + 8 ≡ updnEnd d + 9 = omega arith in
+      date-inside d (updnEnd d + 9) (omega arith) (rw e at (none-at _ _ (b .0)))
 
   edition-width : edtnEnd d ≤ 24
   unfolding edtnGood digitsWithin within
@@ -469,23 +316,240 @@ module _ (d : List ℕ) (filled : DsidLaid d) (g : DsidGood d) where
       let few = leb-true w 3 (p .1) in
       omega arith
 
-  pub known-of : Known d
+  known-of : Known d
   known-of =
       let o = order in
       record { name = nineteen; edition = o .0; edition-few = edition-width; number = o .1; number-few = number-width; behind = omega arith }
 
--- ---- a good DSID's value: what is written for it is a good DSID that says the same
-pub record DsidBack (h : Dsid) : Type 0 where
-  pub laid : dsidLaid (dsidBytes h) ≡ true
-  pub fine : dsidFault false (dsidBytes h) ≡ 0
-  pub back : dsidOf (dsidBytes h) ≡ h
+  -- ---- the same with another UPDN and other dates, written with the fewest digits
+  module _ (nu : ℕ) (most : nu ≤ 999) (applied issued : List ℕ) (first : Dated applied) (second : Dated issued) where
+    abbrev rest : List ℕ
+    rest = drop (updnEnd d + 17) d
 
+    abbrev behind : List ℕ
+    behind = applied ++ (issued ++ rest)
+
+    abbrev n : List ℕ
+    n = dsidWith (take 20 d) (editionIn d) nu behind
+
+    abbrev x : ℕ
+    x = fewest (editionIn d)
+
+    abbrev y : ℕ
+    y = fewest nu
+
+    -- the first text ends where it did
+    name-end : textEnd n 7 ≡ 19
+    unfolding textEnd dsidWith
+    name-end =
+        let o = order in
+        let more = shortest (editionIn d) ++ (31 ∷ (shortest nu ++ (31 ∷ behind))) in
+        let past = until-take 13 (drop 7 d) more (rw until-name (omega arith)) (rw length-drop (omega arith)) in
+        rw (drop-append-le 7 (take 20 d) more (rw front-long (omega arith)), drop-take 7 13 d, past, until-name)
+
+    edition-ends : edtnEnd n ≡ 20 + x
+    edition-ends = rw name-end (edition-end (take 20 d) (editionIn d) nu behind front-long)
+
+    number-ends : updnEnd n ≡ 21 + x + y
+    number-ends = ap (λ (i : ℕ). textEnd n (i + 1)) edition-ends ∙ shift (20 + x + 1) (21 + x) (omega arith) ∙ number-end (take 20 d) (editionIn d) nu behind front-long
+      where
+        shift : (i j : ℕ) → i ≡ j → textEnd n i ≡ textEnd n j
+        shift i j e = rw e
+
+    -- the dates stand behind UPDN, and behind them what stood behind the dates
+    from-applied : drop (updnEnd n + 1) n ≡ behind
+    from-applied =
+        let e : updnEnd n + 1 ≡ 22 + x + y = (let u = number-ends in omega arith) in
+        ap (λ (i : ℕ). drop i n) e ∙ drop-back (take 20 d) (editionIn d) nu behind front-long
+
+    from-issued : drop (updnEnd n + 9) n ≡ issued ++ rest
+    from-issued =
+        let e : updnEnd n + 9 ≡ updnEnd n + 1 + 8 = omega arith in
+        ap (λ (i : ℕ). drop i n) e ∙ sym (drop-drop 8 (updnEnd n + 1) n) ∙ ap (drop 8) from-applied ∙ drop-at applied (issued ++ rest) 8 (first .long)
+
+    from-rest : drop (updnEnd n + 17) n ≡ rest
+    from-rest =
+        let e : updnEnd n + 17 ≡ updnEnd n + 9 + 8 = omega arith in
+        ap (λ (i : ℕ). drop i n) e ∙ sym (drop-drop 8 (updnEnd n + 9) n) ∙ ap (drop 8) from-issued ∙ drop-at issued rest 8 (second .long)
+
+    moved-to : (u w : ℕ) → updnEnd n + 17 ≤ u → w + (updnEnd n + 17) ≡ u + (updnEnd d + 17) → Moved n u d w
+    moved-to u w le e =
+        let m : Moved n (updnEnd n + 17) d (updnEnd d + 17) = record { is = from-rest } in
+        let a1 : updnEnd n + 17 + (u - (updnEnd n + 17)) ≡ u = omega arith in
+        let a2 : updnEnd d + 17 + (u - (updnEnd n + 17)) ≡ w = omega arith in
+        rw (a1, a2) at (moved-on (u - (updnEnd n + 17)) m)
+
+    -- the texts behind end as far behind
+    psdn-moved : psdnEnd n + updnEnd d ≡ psdnEnd d + updnEnd n
+    psdn-moved =
+        let m : Moved n (updnEnd n + 22) d (updnEnd d + 22) = moved-to (updnEnd n + 22) (updnEnd d + 22) (omega arith) (omega arith) in
+        omega (arith, end-moved m)
+
+    pred-moved : predEnd n + updnEnd d ≡ predEnd d + updnEnd n
+    pred-moved =
+        let p = psdn-moved in
+        let o2 = order .2 in
+        let m : Moved n (psdnEnd n + 1) d (psdnEnd d + 1) = moved-to (psdnEnd n + 1) (psdnEnd d + 1) (omega arith) (omega arith) in
+        omega (arith, end-moved m)
+
+    comt-moved : comtEnd n + updnEnd d ≡ comtEnd d + updnEnd n
+    comt-moved =
+        let p = pred-moved in
+        let o2 = order .2 in
+        let o3 = order .3 in
+        let m : Moved n (predEnd n + 4) d (predEnd d + 4) = moved-to (predEnd n + 4) (predEnd d + 4) (omega arith) (omega arith) in
+        omega (arith, end-moved m)
+
+    written-laid : dsidLaid n ≡ true
+    unfolding dsidLaid
+    written-laid =
+        let o2 = order .2 in
+        let o3 = order .3 in
+        let o4 = order .4 in
+        let o5 = order .5 in
+        let c = comt-moved in
+        let e = number-ends in
+        let l = dsid-length (take 20 d) (editionIn d) nu behind front-long in
+        let a = length-append applied (issued ++ rest) in
+        let b = length-append issued rest in
+        let f = first .long in
+        let s = second .long in
+        let k : length rest ≡ length d - (updnEnd d + 17) = length-drop (updnEnd d + 17) d in
+        eq-eqb (comtEnd n + 1) (length n) (omega arith)
+
+    same-front : Same 20 n d
+    same-front = record { byte = λ k h. front-same (take 20 d) (editionIn d) nu behind front-long .byte k h ∙ getD-take 20 d k 0 h }
+
+    edition-good : edtnGood n (dsnmEnd n + 1) (edtnEnd n) ≡ true
+    unfolding edtnGood digitsWithin within
+    edition-good =
+        let r = edition-range in
+        let low = r .0 in
+        let high = r .1 in
+        let some = fewest-some (editionIn d) in
+        let few : x ≤ 4 = fewest-most 3 (editionIn d) (omega arith) in
+        let wide : 20 + x - (19 + 1) ≡ x = omega arith in
+        let e = edition-ends in
+        let m = name-end in
+        let read : numberAt n 20 x ≡ editionIn d = edition-read (take 20 d) (editionIn d) nu behind front-long in
+        rw (e, m, wide, le-leb 1 x some, le-leb x 4 few, read, le-leb 1 (editionIn d) low, le-leb (editionIn d) 9999 high)
+
+    number-good : updnDigits false n (edtnEnd n + 1) (updnEnd n) ≡ true
+    unfolding updnDigits digitsWithin within
+    number-good =
+        let some = fewest-some nu in
+        let few : y ≤ 3 = fewest-most 2 nu (omega arith) in
+        let from : edtnEnd n + 1 ≡ 21 + x = (let e = edition-ends in omega arith) in
+        let wide : 21 + x + y - (21 + x) ≡ y = omega arith in
+        let read : numberAt n (21 + x) y ≡ nu = nu-read (take 20 d) (editionIn d) nu behind front-long in
+        let z : 0 ≤ nu = omega arith in
+        rw (number-ends, from, wide, le-leb 1 y some, le-leb y 3 few, read, le-leb 0 nu z, le-leb nu 999 most)
+
+    applied-read : dateGood n (updnEnd n + 1) ≡ true
+    applied-read = date-moved (updnEnd n + 1) 0 (record { is = from-applied }) ∙ date-front applied (issued ++ rest) first
+
+    issued-read : dateGood n (updnEnd n + 1 + 8) ≡ true
+    issued-read =
+        let e : updnEnd n + 1 + 8 ≡ updnEnd n + 9 = omega arith in
+        rw e (date-moved (updnEnd n + 9) 0 (record { is = from-issued }) ∙ date-front issued rest second)
+
+    issue-good : issueFault false n (updnEnd n + 1) ≡ 0
+    unfolding issueFault uadtGood
+    issue-good =
+        let a = none-first _ _ (g .issue) in
+        let b = none-first _ _ (a .1) in
+        let c = none-first _ _ (b .1) in
+        let m : Moved n (updnEnd n + 1 + 16) d (updnEnd d + 1 + 16) = moved-to (updnEnd n + 1 + 16) (updnEnd d + 1 + 16) (omega arith) (omega arith) in
+        let p : byteAt n (updnEnd n + 1 + 16 + 4) ≡ byteAt d (updnEnd d + 1 + 16 + 4) = moved-byte 4 m in
+        let e : updnEnd n + 1 + 16 + 4 ≡ updnEnd n + 1 + 20 = omega arith in
+        let f : updnEnd d + 1 + 16 + 4 ≡ updnEnd d + 1 + 20 = omega arith in
+        fine-first _ _ (fine-at (updnEnd n + 1) _ applied-read)
+        (fine-first _ _ (fine-at (updnEnd n + 1 + 8) _ issued-read)
+        (fine-first _ _ (fine-at (updnEnd n + 1 + 16) _ (sted-moved (updnEnd n + 1 + 16) (updnEnd d + 1 + 16) m ∙ none-at _ _ (c .0)))
+        (fine-at (updnEnd n + 1 + 20) _ (rw (rw (e, f) at p) (none-at _ _ (c .1))))))
+
+    product-good : productFault false n (dsidEnds n) ≡ 0
+    unfolding productFault dsidEnds predGood
+    product-good =
+        let o2 = order .2 in
+        let o3 = order .3 in
+        let o4 = order .4 in
+        let ps = psdn-moved in
+        let pr = pred-moved in
+        let co = comt-moved in
+        let h = g .product in
+        let a = none-first _ _ h in
+        let b = none-first _ _ (a .1) in
+        let c = none-first _ _ (b .1) in
+        let empty : psdnEnd d ≡ updnEnd d + 22 = eqb-true _ _ (none-at _ _ (a .0)) in
+        let m1 : Moved n (psdnEnd n + 1) d (psdnEnd d + 1) = moved-to (psdnEnd n + 1) (psdnEnd d + 1) (omega arith) (omega arith) in
+        let m2 : Moved n (predEnd n + 1) d (predEnd d + 1) = moved-to (predEnd n + 1) (predEnd d + 1) (omega arith) (omega arith) in
+        let m4 : Moved n (predEnd n + 4) d (predEnd d + 4) = moved-to (predEnd n + 4) (predEnd d + 4) (omega arith) (omega arith) in
+        let pg = none-at _ _ (b .0) in
+        let pq = both (eqb (predEnd d) (psdnEnd d + 1 + 3)) _ pg in
+        let pe : predEnd d ≡ psdnEnd d + 1 + 3 = eqb-true _ _ (pq .0) in
+        let front0 : byteAt n (psdnEnd n + 1) ≡ byteAt d (psdnEnd d + 1) = moved-first m1 in
+        let prof : byteAt n (predEnd n + 1) ≡ byteAt d (predEnd d + 1) = moved-first m2 in
+        let size : comtEnd n - (predEnd n + 4) ≡ comtEnd d - (predEnd d + 4) = omega arith in
+        fine-first _ _ (fine-at (updnEnd n + 22) _ (eq-eqb (psdnEnd n) (updnEnd n + 22) (omega arith)))
+        (fine-first _ _ (fine-at (psdnEnd n + 1) _ (rw (eq-eqb (predEnd n) (psdnEnd n + 1 + 3) (omega arith), front0, moved-byte 1 m1, moved-byte 2 m1) (pq .1)))
+        (fine-first _ _ (fine-at (predEnd n + 1) _ (rw prof (none-at _ _ (c .0))))
+        (fine-at (predEnd n + 4) _ (rw (size, m4 .is) (none-at _ _ (c .1))))))
+
+    written-fine : dsidFault false n ≡ 0
+    written-fine = good-dsid n (record {
+      head = head-same same-front ∙ g .head;
+      name = rw name-end (name-same 19 same-front ∙ rw nineteen at (g .name));
+      edition = edition-good;
+      number = number-good;
+      issue = issue-good;
+      product = product-good;
+    })
+
+    edition-again : editionIn n ≡ editionIn d
+    edition-again =
+        let wide : 20 + x - (19 + 1) ≡ x = omega arith in
+        edition-is n ∙ rw (edition-ends, name-end, wide) (edition-read (take 20 d) (editionIn d) nu behind front-long)
+
+    number-again : numberIn n ≡ nu
+    number-again =
+        let from : edtnEnd n + 1 ≡ 21 + x = (let e = edition-ends in omega arith) in
+        let wide : 21 + x + y - (21 + x) ≡ y = omega arith in
+        number-is n ∙ rw (number-ends, from, wide) (nu-read (take 20 d) (editionIn d) nu behind front-long)
+
+    written-back : dsidOf n ≡ dated d nu applied issued
+    unfolding dsidOf
+    written-back =
+        rw (
+          edition-again,
+          number-again,
+          from-applied,
+          from-issued,
+          from-rest,
+          take-at applied (issued ++ rest) 8 (first .long),
+          take-at issued rest 8 (second .long),
+          take-front (take 20 d) (editionIn d) nu behind front-long,
+        )
+
+    all-back : DsidBack (dated d nu applied issued)
+    unfolding dsidBytes
+    all-back = record { laid = written-laid; fine = written-fine; back = written-back }
+
+-- ---- a good DSID's value: what is written for it is a good DSID that says the same
 pub dsid-back : (d : List ℕ) → dsidLaid d ≡ true → dsidFault false d ≡ 0 → DsidBack (dsidOf d)
+unfolding dsidOf
 dsid-back d laid fine =
     let f = dsid-laid d laid in
     let g = dsid-good d fine in
-    let e = dsid-written d in
-    record { laid = rw e (written-laid d f g); fine = rw e (written-fine d f g); back = rw e (written-back d f g) }
+    all-back d f g (numberIn d) (number-range d f g) (take 8 (drop (updnEnd d + 1) d)) (take 8 (drop (updnEnd d + 9) d)) (applied-good d f g) (issued-good d f g)
+
+-- ---- the same of the result's: UPDN up to 999 and a date are enough of the update's
+revised-back : (d : List ℕ) (e : Dsid) → dsidLaid d ≡ true → dsidFault false d ≡ 0 → e .number ≤ 999 → Dated (e .issued) → DsidBack (revised (dsidOf d) e)
+unfolding revised dsidOf
+revised-back d e laid fine few date = all-back d (dsid-laid d laid) (dsid-good d fine) (e .number) few (e .issued) (e .issued) date date
+
+pub revised-good : (h e : Dsid) → DsidBack h → e .number ≤ 999 → Dated (e .issued) → DsidBack (revised h e)
+revised-good h e so few date = rw (so .back) at (revised-back (dsidBytes h) e (so .laid) (so .fine) few date)
 
 -- what the writer asks of a DSID
 pub dsid-known : (d : List ℕ) → dsidLaid d ≡ true → dsidFault false d ≡ 0 → Known d

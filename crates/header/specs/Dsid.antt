@@ -40,3 +40,8 @@ dsidWith front edition number back = front ++ (shortest edition ++ (31 ∷ (shor
 
 unfoldable pub dsidBytes : Dsid → List ℕ
 dsidBytes h = dsidWith (h .named) (h .edition) (h .number) (h .applied ++ (h .issued ++ h .rest))
+
+-- ---- updated
+-- "The result keeps DSID, save UPDN, and UADT and ISDT, which become the update's ISDT": d the cell's, e the update's
+unfoldable pub revised : Dsid → Dsid → Dsid
+revised d e = dsid (d .named) (d .edition) (e .number) (e .issued) (e .issued) (d .rest)

@@ -2,10 +2,10 @@
 use Prim.Native.Nat.{ℕ, _+_, _≤_, _<_}
 use mathlib.Core.List.{List}
 use mathlib.Core.Path.{_≡_}
-use lib.ListN.{length}
+use lib.ListN.{length, take, drop}
 use Rattle.values.specs.Dsid.{dsnmEnd, edtnEnd, updnEnd}
 use Rattle.values.specs.declared.dsid.Ends.{Ends}
-use Rattle.header.specs.Dsid.{editionIn, numberIn}
+use Rattle.header.specs.Dsid.{Dsid, dsid, editionIn, numberIn, dsidBytes}
 use Rattle.header.specs.declared.dsid.Parts.{Parts}
 
 -- a DSID without a fault: DSNM ends at byte 19, EDTN has at most four digits, UPDN at most three, and what must stand behind them is there
@@ -29,6 +29,16 @@ pub record EndsKnown (d : List ℕ) (e : Ends) : Type 0 where
 pub record PartsOf (d : List ℕ) (p : Parts) : Type 0 where
   pub edition : p .edition ≡ editionIn d
   pub number : p .number ≡ numberIn d
+  pub few : p .number ≤ 1000000000
   pub issue : p .issue ≡ updnEnd d + 1
   pub front : 20 ≤ length d
   pub behind : p .issue + 16 ≤ length d
+
+-- the DSID d with this UPDN and these dates
+abbrev pub dated : List ℕ → ℕ → List ℕ → List ℕ → Dsid
+dated d number applied issued = dsid (take 20 d) (editionIn d) number applied issued (drop (updnEnd d + 17) d)
+
+-- r bytes are written for the DSID d with this UPDN and dates of eight bytes
+pub record SizeWith (d : List ℕ) (number r : ℕ) : Type 0 where
+  pub is : (applied issued : List ℕ) → length applied ≡ 8 → length issued ≡ 8 → r ≡ length (dsidBytes (dated d number applied issued))
+  pub few : r ≤ length d + 22

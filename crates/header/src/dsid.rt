@@ -5,8 +5,8 @@ ghost use mathlib.Core.List.{[], _∷_, _++_};
 ghost use lib.ListN.{length};
 ghost use Rattle.octets.specs.Area.{Wrote};
 ghost use Rattle.octets.specs.Digits.{fewest};
-ghost use Rattle.header.specs.Dsid.{shortest, dsidWith, dsidOf, dsidBytes};
-ghost use Rattle.header.specs.Known.{Known, EndsKnown, PartsOf};
+ghost use Rattle.header.specs.Dsid.{shortest, dsidWith, dsidOf, dsidBytes, revised};
+ghost use Rattle.header.specs.Known.{Known, EndsKnown, PartsOf, SizeWith, dated};
 ghost use Rattle.values.specs.Dsid.{dsidEnds};
 use octets::area::copy;
 use octets::digits::fewest_digits;
@@ -54,22 +54,53 @@ fn put_number(v: u32, out: &mut [u8], at: usize) -> usize
     put1(out, end, 31)
 }
 
-// A DSID of these two numbers, between what stands before and what stands behind them.
-fn put_with(
-    front: &[u8],
-    edition: u32,
-    number: u32,
-    back: &[u8],
-    out: &mut [u8],
-    at: usize,
-) -> usize
-    requires { ⌜ at + length (dsidWith (now front) edition number (now back)) ≤ length (now out) ⌝ }
-    ensures { λ r. ⌜ Wrote (now (out .entry)) at (dsidWith (now (front .entry)) edition number (now (back .entry))) (now (out .exit)) r ⌝ }
+// What stands before EDTN, and the two numbers.
+fn put_names(front: &[u8], edition: u32, number: u32, out: &mut [u8], at: usize) -> usize
+    requires { ⌜ at + length (dsidWith (now front) edition number []) ≤ length (now out) ⌝ }
+    ensures { λ r. ⌜ Wrote (now (out .entry)) at (dsidWith (now (front .entry)) edition number []) (now (out .exit)) r ⌝ }
 {
     let a = copy(front, out, at);
     let b = put_number(edition, out, a);
-    let c = put_number(number, out, b);
-    copy(back, out, c)
+    put_number(number, out, b)
+}
+
+// The two dates, and what stands behind them.
+fn put_dates(applied: &[u8], issued: &[u8], rest: &[u8], out: &mut [u8], at: usize) -> usize
+    requires { ⌜ at + length (now applied ++ (now issued ++ now rest)) ≤ length (now out) ⌝ }
+    ensures { λ r. ⌜ Wrote (now (out .entry)) at (now (applied .entry) ++ (now (issued .entry) ++ now (rest .entry))) (now (out .exit)) r ⌝ }
+{
+    let a = copy(applied, out, at);
+    let b = copy(issued, out, a);
+    copy(rest, out, b)
+}
+
+// The DSID f in held form with this UPDN and these dates.
+fn put_dated(
+    f: &[u8],
+    number: u32,
+    applied: &[u8],
+    issued: &[u8],
+    out: &mut [u8],
+    at: usize,
+) -> usize
+    requires { ⌜ Known (now f) × (at + length (dsidBytes (dated (now f) number (now applied) (now issued))) ≤ length (now out)) ⌝ }
+    ensures { λ r. ⌜ Wrote (now (out .entry)) at (dsidBytes (dated (now (f .entry)) number (now (applied .entry)) (now (issued .entry)))) (now (out .exit)) r ⌝ }
+{
+    let p = parts_of(f);
+    let from: usize = 0;
+    let to: usize = 20;
+    let a = put_names(&f[from..to], p.edition, number, out, at);
+    let rest = p.issue + 16;
+    put_dates(applied, issued, &f[rest..], out, a)
+}
+
+// How many bytes the DSID f has in held form with this UPDN.
+fn size_with(f: &[u8], number: u32) -> usize
+    requires { ⌜ Known (now f) ⌝ }
+    ensures { λ r. ⌜ SizeWith (now (f .entry)) number r ⌝ }
+{
+    let p = parts_of(f);
+    22 + fewest_digits(p.edition) + fewest_digits(number) + (f.len() - p.issue)
 }
 
 // How many bytes the DSID f has in held form.
@@ -78,7 +109,7 @@ pub fn dsid_size(f: &[u8]) -> usize
     ensures { λ r. ⌜ (r ≡ length (dsidBytes (dsidOf (now (f .entry))))) × (r ≤ length (now (f .entry)) + 22) ⌝ }
 {
     let p = parts_of(f);
-    22 + fewest_digits(p.edition) + fewest_digits(p.number) + (f.len() - p.issue)
+    size_with(f, p.number)
 }
 
 // The DSID f in held form.
@@ -87,8 +118,29 @@ pub fn put_dsid(f: &[u8], out: &mut [u8], at: usize) -> usize
     ensures { λ r. ⌜ Wrote (now (out .entry)) at (dsidBytes (dsidOf (now (f .entry)))) (now (out .exit)) r ⌝ }
 {
     let p = parts_of(f);
-    let from: usize = 0;
-    let to: usize = 20;
-    let issue = p.issue;
-    put_with(&f[from..to], p.edition, p.number, &f[issue..], out, at)
+    let from = p.issue;
+    let mid = from + 8;
+    let to = mid + 8;
+    put_dated(f, p.number, &f[from..mid], &f[mid..to], out, at)
+}
+
+// How many bytes the DSID f of a cell has in held form once the update with the DSID g is applied.
+pub fn revised_size(f: &[u8], g: &[u8]) -> usize
+    requires { ⌜ Known (now f) × Known (now g) ⌝ }
+    ensures { λ r. ⌜ (r ≡ length (dsidBytes (revised (dsidOf (now (f .entry))) (dsidOf (now (g .entry)))))) × (r ≤ length (now (f .entry)) + 22) ⌝ }
+{
+    let p = parts_of(g);
+    size_with(f, p.number)
+}
+
+// The DSID f of a cell once the update with the DSID g is applied.
+pub fn put_revised(f: &[u8], g: &[u8], out: &mut [u8], at: usize) -> usize
+    requires { ⌜ Known (now f) × Known (now g) × (at + length (dsidBytes (revised (dsidOf (now f)) (dsidOf (now g)))) ≤ length (now out)) ⌝ }
+    ensures { λ r. ⌜ Wrote (now (out .entry)) at (dsidBytes (revised (dsidOf (now (f .entry))) (dsidOf (now (g .entry))))) (now (out .exit)) r ⌝ }
+{
+    let p = parts_of(g);
+    let from = p.issue + 8;
+    let to = from + 8;
+    let issued = &g[from..to];
+    put_dated(f, p.number, issued, issued, out, at)
 }

@@ -49,20 +49,21 @@ use Rattle.held.proofs.OrderLaws.{namesOf, Apart, order-ordered}
 use Rattle.held.proofs.OrderLaws.Apart.{apart-none, apart-more}
 
 -- ---- out of the walk over the records
-told : (a b k : ℕ) (rest : Refusal) → (cond (eqb a 0) (cond (eqb b 0) rest (refusal 6 k b)) (refusal 5 k a)) .code ≡ 0 → (a ≡ 0) × (b ≡ 0) × (rest .code ≡ 0)
+pub told : (a b k : ℕ) (rest : Refusal) → (cond (eqb a 0) (cond (eqb b 0) rest (refusal 6 k b)) (refusal 5 k a)) .code ≡ 0 → (a ≡ 0) × (b ≡ 0) × (rest .code ≡ 0)
 told a b k rest h =
     ⊎-elim (λ (x : eqb a 0 ≡ true).
     ⊎-elim (λ (y : eqb b 0 ≡ true). (eqb-true a 0 x, eqb-true b 0 y, rw (x, y) at h)) (λ (y : eqb b 0 ≡ false). absurd (let z : _≡_ {A = ℕ} 6 0 = rw (x, y) at h in omega arith)) (true-or-false (eqb b 0)))
     (λ (x : eqb a 0 ≡ false). absurd (let z : _≡_ {A = ℕ} 5 0 = rw x at h in omega arith)) (true-or-false (eqb a 0))
 
-pub open-record : (stage : ℕ) (marks : List ℕ) (aall nall : ℕ) (s : List ℕ) (at : ℕ) → RecordIn s at → layoutFault false stage marks s at ≡ 0
-    → valueFault false aall nall s at ≡ 0 → Opened stage marks aall nall (piecesAt s at)
-open-record stage marks aall nall s at known laid valued =
-    opened stage marks aall nall (piecesAt s at) (rw (← (count-seen s at (piecesAt s at) refl)) (known .framed .some)) (laid-told s at known false stage marks laid) (values-told s at known false aall nall valued)
+pub open-record : (update : Bool) (stage : ℕ) (marks : List ℕ) (aall nall : ℕ) (s : List ℕ) (at : ℕ) → RecordIn s at → layoutFault update stage marks s at ≡ 0
+    → valueFault update aall nall s at ≡ 0 → Opened update stage marks aall nall (piecesAt s at)
+open-record update stage marks aall nall s at known laid valued =
+    opened update stage marks aall nall (piecesAt s at) (rw (← (count-seen s at (piecesAt s at) refl)) (known .framed .headed .some)) (laid-told s at known update stage marks laid)
+    (values-told s at known update aall nall valued)
 
 -- ---- one object
 opened-object : (stage : ℕ) (marks : List ℕ) (aall nall : ℕ) (s : List ℕ) (at : ℕ) → ((i : ℕ) → byteAt s i < 256) → 2 ≤ stage → stage ≤ 3
-    → Opened stage marks aall nall (piecesAt s at) → Good aall nall (objectAt s at)
+    → Opened false stage marks aall nall (piecesAt s at) → Good aall nall (objectAt s at)
 opened-object stage marks aall nall s at small low high o =
     let k = kindIn (o .two) in
     let few = kind-few (o .two .named) in
@@ -80,22 +81,22 @@ opened-object stage marks aall nall s at small low high o =
 object-told : (stage : ℕ) (marks : List ℕ) (aall nall : ℕ) (s : List ℕ) (at : ℕ) → ((i : ℕ) → byteAt s i < 256) → 2 ≤ stage → stage ≤ 3 → RecordIn s at
     → layoutFault false stage marks s at ≡ 0 → valueFault false aall nall s at ≡ 0
     → Good aall nall (objectAt s at)
-object-told stage marks aall nall s at small low high known laid valued = opened-object stage marks aall nall s at small low high (open-record stage marks aall nall s at known laid valued)
+object-told stage marks aall nall s at small low high known laid valued = opened-object stage marks aall nall s at small low high (open-record false stage marks aall nall s at known laid valued)
 
-or-right : (a b : Bool) → b ≡ true → (a || b) ≡ true
+pub or-right : (a b : Bool) → b ≡ true → (a || b) ≡ true
 or-right true b h = refl
 or-right false b h = h
 
-differs : (x y : ℕ) (seen : List ℕ) → isIn x seen ≡ false → isIn y seen ≡ true → x ≡ y → ⊥
+pub differs : (x y : ℕ) (seen : List ℕ) → isIn x seen ≡ false → isIn y seen ≡ true → x ≡ y → ⊥
 differs x y seen no-x has-y e = let f : isIn y seen ≡ false = rw e at no-x in let z : _≡_ {A = Bool} false true = cc in let w : _≡_ {A = ℕ} 0 1 = cc in omega arith
 
-once-more : (j x w : ℕ) (seen ws : List ℕ) → 1 ≤ j → x ≡ nameOf w → twiceFrom j seen (w ∷ ws) .index ≡ 0 → twiceFrom (j + 1) (x ∷ seen) ws .index ≡ 0
+pub once-more : (j x w : ℕ) (seen ws : List ℕ) → 1 ≤ j → x ≡ nameOf w → twiceFrom j seen (w ∷ ws) .index ≡ 0 → twiceFrom (j + 1) (x ∷ seen) ws .index ≡ 0
 unfolding twiceFrom
 once-more j x w seen ws some e once =
     ⊎-elim (λ (met : isIn (nameOf w) seen ≡ true). absurd (let z : j ≡ 0 = rw met at once in omega arith))
     (λ (new : isIn (nameOf w) seen ≡ false). rw e (rw new at once)) (true-or-false (isIn (nameOf w) seen))
 
-self-in : (x : ℕ) (seen : List ℕ) → isIn x (x ∷ seen) ≡ true
+pub self-in : (x : ℕ) (seen : List ℕ) → isIn x (x ∷ seen) ≡ true
 unfolding isIn
 self-in x seen = rw (eq-eqb x x refl)
 
@@ -103,9 +104,10 @@ either-stage : (b : Bool) (stage : ℕ) → 2 ≤ stage → stage ≤ 3 → (2 �
 either-stage true stage low high = (omega arith, omega arith)
 either-stage false stage low high = (low, high)
 
-stage-late : (stage : ℕ) (feature : Bool) → 2 ≤ stage → stage ≤ 3 → (2 ≤ nextStage false stage feature) × (nextStage false stage feature ≤ 3) × (eqb stage 0 ≡ false)
+pub stage-late : (update : Bool) (stage : ℕ) (feature : Bool) → 2 ≤ stage → stage ≤ 3
+    → (2 ≤ nextStage update stage feature) × (nextStage update stage feature ≤ 3) × (eqb stage 0 ≡ false)
 unfolding nextStage
-stage-late stage feature low high =
+stage-late update stage feature low high =
     let a = ne-eqb stage 0 (λ e. omega arith) in
     let b = ne-eqb stage 1 (λ e. omega arith) in
     let r = either-stage feature stage low high in
@@ -147,15 +149,15 @@ module _ (s : List ℕ) (n : ℕ) (framed : frameOf s ≡ Records n) (short : le
       let here : Good aall nall (objectAt s at) = object-told (st .stage) marks aall nall s at small low high known (p .0) (rw (ea, en) at (p .1)) in
       let on : twiceFrom (j + 1) (nameOf (wordFor s at) ∷ seen) (wordsFrom m s (endOf s at)) .index ≡ 0 = once-more j (nameOf (wordFor s at)) (wordFor s at) seen (wordsFrom m s (endOf s at)) some refl once in
       let out = unseen m (k + 1) (j + 1) (nameOf (wordFor s at)) (nameOf (wordFor s at) ∷ seen) (omega arith) (omega arith) (rw (at-next s k at refl) at on) (self-in (nameOf (wordFor s at)) seen) in
-      let stage = stage-late (st .stage) (isFeature s at) low high in
+      let stage = stage-late false (st .stage) (isFeature s at) low high in
       let rest = objects-told marks aall nall m (k + 1) (j + 1) (nameOf (wordFor s at) ∷ seen) next small (omega arith) (omega arith) (stage .0) (stage .1) (rw (stage .2) ea) (rw (stage .2) en)
       (rw (at-next s k at refl) at (p .2)) (rw (at-next s k at refl) at on) in
       rw (at-next s k at refl) (apart-more here (rw (name-at k (omega arith)) at out) rest)
 
 -- ---- the header
-pub record DsidTold (s : List ℕ) (at : ℕ) : Type 0 where
+pub record DsidTold (update : Bool) (s : List ℕ) (at : ℕ) : Type 0 where
   pub laid : dsidLaid (contentAt s at 1) ≡ true
-  pub fine : dsidFault false (contentAt s at 1) ≡ 0
+  pub fine : dsidFault update (contentAt s at 1) ≡ 0
   pub aall-low : aallAt s at ≤ 1
   pub nall-low : nallAt s at ≤ 1
 
@@ -163,41 +165,41 @@ second : (s : List ℕ) (at : ℕ) (a b : Piece) (rest : List Piece) → piecesA
 unfolding pieceOf
 second s at a b rest e = ap (λ (x : Piece). x .content) (piece-seen s at (a ∷ b ∷ rest) 1 a e (omega arith))
 
-levels : (c : List ℕ) → dssiFault false c ≡ 0 → (byteAt c 1 ≤ 1) × (byteAt c 2 ≤ 1)
+levels : (update : Bool) (c : List ℕ) → dssiFault update c ≡ 0 → (byteAt c 1 ≤ 1) × (byteAt c 2 ≤ 1)
 unfolding dssiFault
-levels c h =
+levels update c h =
     let a = none-first _ _ h in
     let b = none-first _ _ (a .1) in
     let d = none-first _ _ (b .1) in
     (leb-true _ _ (none-at _ _ (b .0)), leb-true _ _ (none-at _ _ (d .0)))
 
 -- DSSI behind DSID
-dssi-told : (marks : List ℕ) (seen : List ℕ) (s : List ℕ) (at : ℕ) (a b : Piece) (fs : List Piece) → piecesAt s at ≡ a ∷ b ∷ fs → laidIn false 0 marks DSID fs ≡ true
-    → valuedIn false 0 0 DSID seen fs ≡ true
+dssi-told : (update : Bool) (marks : List ℕ) (seen : List ℕ) (s : List ℕ) (at : ℕ) (a b : Piece) (fs : List Piece) → piecesAt s at ≡ a ∷ b ∷ fs → laidIn update 0 marks DSID fs ≡ true
+    → valuedIn update 0 0 DSID seen fs ≡ true
     → (aallAt s at ≤ 1) × (nallAt s at ≤ 1)
 unfolding laidIn valuedIn mayEnd rowOf table aallAt nallAt fieldFault
-dssi-told marks seen s at a b [] e laid valued = never laid
-dssi-told marks seen s at a b (f ∷ fs) e laid valued =
-    let st = step false 0 marks DSID f fs (omega arith) laid in
-    let kind : kindIn f ≡ DSSI = follows-dsid false (kindIn f) (kind-few (f .named)) (st .placing) in
+dssi-told update marks seen s at a b [] e laid valued = never laid
+dssi-told update marks seen s at a b (f ∷ fs) e laid valued =
+    let st = step update 0 marks DSID f fs (omega arith) laid in
+    let kind : kindIn f ≡ DSSI = follows-dsid update (kindIn f) (kind-few (f .named)) (st .placing) in
     let long : length (f .content) ≡ 35 = full-dssi (f .content) (rw kind at (st .full)) in
-    let p = both (eqb (fieldFault false 0 0 (kindIn f) (seenBefore DSID (kindIn f) seen) (f .content)) 0) (valuedIn false 0 0 (kindIn f) (seenAfter (kindIn f) (seenBefore DSID (kindIn f) seen) (f .content)) fs) valued in
-    let none : dssiFault false (f .content) ≡ 0 = rw kind at (eqb-true (fieldFault false 0 0 (kindIn f) (seenBefore DSID (kindIn f) seen) (f .content)) 0 (p .0)) in
-    let l = levels (f .content) none in
+    let p = both (eqb (fieldFault update 0 0 (kindIn f) (seenBefore DSID (kindIn f) seen) (f .content)) 0) (valuedIn update 0 0 (kindIn f) (seenAfter (kindIn f) (seenBefore DSID (kindIn f) seen) (f .content)) fs) valued in
+    let none : dssiFault update (f .content) ≡ 0 = rw kind at (eqb-true (fieldFault update 0 0 (kindIn f) (seenBefore DSID (kindIn f) seen) (f .content)) 0 (p .0)) in
+    let l = levels update (f .content) none in
     let q = fieldAt s at 2 .start in
     let x : byteAt s (q + 1) ≡ byteAt (f .content) 1 = sym (num-one s (q + 1)) ∙ number-seen s at (a ∷ b ∷ f ∷ fs) 2 a 1 1 e (omega arith) (omega arith) ∙ num-one (f .content) 1 in
     let y : byteAt s (q + 2) ≡ byteAt (f .content) 2 = sym (num-one s (q + 2)) ∙ number-seen s at (a ∷ b ∷ f ∷ fs) 2 a 2 1 e (omega arith) (omega arith) ∙ num-one (f .content) 2 in
     (rw x (l .0), rw y (l .1))
 
-dsid-told : (marks s : List ℕ) (at : ℕ) → Opened 0 marks 0 0 (piecesAt s at) → DsidTold s at
+pub dsid-told : (update : Bool) (marks s : List ℕ) (at : ℕ) → Opened update 0 marks 0 0 (piecesAt s at) → DsidTold update s at
 unfolding fieldFault filled
-dsid-told marks s at o =
+dsid-told update marks s at o =
     let kind = opens-dsid (kindIn (o .two)) (kind-few (o .two .named)) (o .opening) in
     let c = second s at (o .one) (o .two) (o .rest) (o .is) in
-    let l = dssi-told marks _ s at (o .one) (o .two) (o .rest) (o .is) (rw kind at (o .laid)) (rw kind at (o .valued)) in
+    let l = dssi-told update marks _ s at (o .one) (o .two) (o .rest) (o .is) (rw kind at (o .laid)) (rw kind at (o .valued)) in
     record { laid = rw c (rw kind at (o .full)); fine = rw c (rw kind at (o .fine)); aall-low = l .0; nall-low = l .1 }
 
-dspm-told : (marks : List ℕ) (aall nall : ℕ) (s : List ℕ) (at : ℕ) → Opened 1 marks aall nall (piecesAt s at)
+dspm-told : (marks : List ℕ) (aall nall : ℕ) (s : List ℕ) (at : ℕ) → Opened false 1 marks aall nall (piecesAt s at)
     → (dspmLaid (contentAt s at 1) ≡ true) × (dspmFault (contentAt s at 1) ≡ 0)
 unfolding fieldFault filled
 dspm-told marks aall nall s at o =
@@ -229,8 +231,8 @@ chart-from s marks n (suc (suc m)) framed short small all fault once =
     let less : n - 3 ≡ m = omega arith in
     let p = told (layoutFault false 0 marks s a) (valueFault false 0 0 s a) 1 (recordsFault (suc m) false marks s 2 (endOf s a) s1) fault in
     let q = told (layoutFault false 1 marks s b) (valueFault false (aallAt s a) (nallAt s a) s b) 2 (recordsFault m false marks s 3 (endOf s b) s2) (rw (at-next s 1 a refl) at (p .2)) in
-    let d = dsid-told marks s a (open-record 0 marks 0 0 s a (record-in s n 1 a framed (omega arith) refl) (p .0) (p .1)) in
-    let e = dspm-told marks (aallAt s a) (nallAt s a) s b (open-record 1 marks (aallAt s a) (nallAt s a) s b (record-in s n 2 b framed (omega arith) refl) (q .0) (q .1)) in
+    let d = dsid-told false marks s a (open-record false 0 marks 0 0 s a (record-in s n 1 a framed (omega arith) refl) (p .0) (p .1)) in
+    let e = dspm-told marks (aallAt s a) (nallAt s a) s b (open-record false 1 marks (aallAt s a) (nallAt s a) s b (record-in s n 2 b framed (omega arith) refl) (q .0) (q .1)) in
     let t = objects-told s n framed short marks (aallAt s a) (nallAt s a) m 3 3 [] s2 small (omega arith) (omega arith) (omega arith) (omega arith) refl refl (rw (at-next s 2 b refl) at (q .2)) (rw less at once) in
     let r = dsid-back (contentAt s a 1) (d .laid) (d .fine) in
     record {

@@ -34,11 +34,11 @@ use Rattle.objects.proofs.LaidLaws.{Declared}
 use Rattle.objects.proofs.ObjectLaws.{class-small, laid-vector, laid-feature, valued-vector, valued-feature, vector-back, feature-back}
 
 -- ---- one object, of either kind
-vector-pieces : (n : ℕ) (t : Object) {aall nall : ℕ} → Vector aall nall t → objectPieces n t ≡ vectorPieces n t
+pub vector-pieces : (n : ℕ) (t : Object) {aall nall : ℕ} → Vector aall nall t → objectPieces n t ≡ vectorPieces n t
 unfolding objectPieces objects.isFeature
 vector-pieces n t v = let s = class-small (t .rcnm) (v .class) in rw (ne-eqb (t .rcnm) 100 (λ e. omega arith))
 
-feature-pieces : (n : ℕ) (t : Object) {aall nall : ℕ} → Feature aall nall t → objectPieces n t ≡ featurePieces n t
+pub feature-pieces : (n : ℕ) (t : Object) {aall nall : ℕ} → Feature aall nall t → objectPieces n t ≡ featurePieces n t
 unfolding objectPieces objects.isFeature
 feature-pieces n t f = rw (eq-eqb (t .rcnm) 100 (f .class))
 

@@ -16,7 +16,7 @@ use Rattle.octets.proofs.Tests.{tests}
 use Rattle.iso8211.specs.Directory.{tagAt, rowAt, rowWidth, rows, len, position}
 use Rattle.iso8211.specs.Record.{fieldGood, inRow, onward, StepWithin, RowStep, BatchStep}
 use Rattle.iso8211.specs.Leader.{baseAt, lengthDigits, positionDigits}
-use Rattle.iso8211.specs.Field.{countAt, directoryAt, fieldAt, FramedAt, Rowed, Due}
+use Rattle.iso8211.specs.Field.{countAt, directoryAt, fieldAt, Rowed, Due}
 use Rattle.iso8211.specs.declared.field.Field.{Field}
 use Rattle.iso8211.specs.declared.directory.Step.{Step}
 use Rattle.iso8211.specs.declared.directory.Step.the-variants.{On, Bad}
@@ -178,7 +178,7 @@ pub row-within : {s : List ℕ} {at l p k : ℕ} → Rowed s at l p k → at + 2
 row-within {s} {at} {l} {p} {k} r =
     let w = rowWidth (lengthDigits s at) (positionDigits s at) in
     let step = row-room (at + 24) k (countAt s at) w (at + 24 + countAt s at * w) (r .below) (native.Mathlib.Nat.le-refl (at + 24 + countAt s at * w)) in
-    rw (r .lengths, r .positions) (let whole = r .framed .whole in let high = r .framed .high in let fits = r .framed .fits in omega arith)
+    rw (r .lengths, r .positions) (let whole = r .headed .whole in let room = r .headed .room in omega arith)
 
 pub count-is : (s : List ℕ) (at base l p : ℕ) → base ≡ baseAt s at → l ≡ lengthDigits s at → p ≡ positionDigits s at → (base - 25) / (4 + l + p) ≡ countAt s at
 unfolding countAt

@@ -21,7 +21,7 @@ use Rattle.iso8211.proofs.RecordLaws.{record-framed}
 
 -- ---- a record's end is past its start
 pub end-past : (first : Bool) (s : List ℕ) (at : ℕ) → recordGood first s at ≡ true → at < endOf s at
-end-past first s at good = let f = record-framed first s at good in let low = f .low in let high = f .high in omega arith
+end-past first s at good = let f = record-framed first s at good in let low = f .headed .low in let high = f .high in omega arith
 
 -- ---- what an end tells of its record
 end-zero : (first : Bool) (s : List ℕ) (at e : ℕ) → e ≡ goodEnd first s at → e ≡ 0 → recordGood first s at ≡ false

@@ -17,7 +17,7 @@ use Rattle.octets.proofs.Tests.{both, all4}
 use Rattle.iso8211.specs.Leader.{sizeAt, baseAt, lengthDigits, positionDigits}
 use Rattle.iso8211.specs.Directory.{rows, len, position}
 use Rattle.iso8211.specs.Record.{fieldGood, inRow, recordGood, endOf}
-use Rattle.iso8211.specs.Field.{countAt, directoryAt, fieldAt, FramedAt, FieldIn, RecordIn, Due}
+use Rattle.iso8211.specs.Field.{countAt, directoryAt, fieldAt, Headed, FramedAt, FieldIn, RecordIn, FieldsIn, Due}
 use Rattle.iso8211.specs.File.{framedFrom, frameOf, recordAt}
 use Rattle.iso8211.specs.declared.field.Field.{Field}
 use Rattle.iso8211.specs.declared.file.Framed.{Framed}
@@ -47,6 +47,10 @@ good-at s n k v h = good-from (suc (length s)) s 0 0 n k v refl (omega arith) h
 -- each record is framed
 pub framed-at : (s : List ℕ) (n k at : ℕ) → frameOf s ≡ Records n → k < n → at ≡ recordAt s k → FramedAt s at
 framed-at s n k at v h e = rw e (record-framed (eqb k 0) s (recordAt s k) (good-at s n k v h))
+
+-- so that its fields can be read
+pub framed-headed : {s : List ℕ} {at : ℕ} → FramedAt s at → Headed s at
+framed-headed framed = framed .headed
 
 -- the next starts where it ends
 pub at-first : (s : List ℕ) → recordAt s 0 ≡ 0
@@ -135,25 +139,6 @@ pub directory-length : (s : List ℕ) (at : ℕ) → length (directoryAt s at) �
 unfolding directoryAt
 directory-length s at = rows-length (countAt s at) s (lengthDigits s at) (positionDigits s at) (at + 24)
 
--- each field lies in its record
-pub field-in : (s : List ℕ) (n k at j : ℕ) → frameOf s ≡ Records n → k < n → at ≡ recordAt s k → j < countAt s at → FieldIn s at (fieldAt s at j)
-unfolding fieldAt
-field-in s n k at j v h e less =
-    let good = good-at s n k v h in
-    let framed = framed-at s n k at v h e in
-    let high = framed .high in
-    let row = record-row (eqb k 0) s at (rw e good) in
-    let es = directoryAt s at in
-    let facts = row-in s (at + baseAt s at) (sizeAt s at - baseAt s at) 0 es j row (rw (directory-length s at) less) in
-    let long = facts .0 in
-    let within = facts .1 in
-    record {
-      after = omega arith;
-      long = long;
-      within = omega arith;
-      ends = rw (add-assoc (at + baseAt s at) (position (getD es j [])) (len (getD es j []))) (facts .2);
-    }
-
 -- "Field positions start at 0, follow without gaps"
 row-next : (s : List ℕ) (body size due : ℕ) (es : List (List ℕ)) (j : ℕ) → inRow s body size es due ≡ true → j + 1 < length es
     → position (getD es (suc j) []) ≡ position (getD es j []) + len (getD es j [])
@@ -178,31 +163,74 @@ row-first s body size due (e ∷ es) v h =
     let p = both _ (inRow s body size es (due + len e)) v in
     eqb-true _ _ (all4 (eqb (position e) due) (leb 1 (len e)) (leb (due + len e) size) _ (p .0) .0)
 
--- the first field starts at the base address
-field-first : (s : List ℕ) (n k at : ℕ) → frameOf s ≡ Records n → k < n → at ≡ recordAt s k → fieldAt s at 0 .start ≡ at + baseAt s at
-unfolding fieldAt
-field-first s n k at v h e =
-    let row = record-row (eqb k 0) s at (rw e (good-at s n k v h)) in
-    let some = framed-at s n k at v h e .some in
-    let z : position (getD (directoryAt s at) 0 []) ≡ 0 = row-first s (at + baseAt s at) (sizeAt s at - baseAt s at) 0 (directoryAt s at) row (rw (directory-length s at) some) in
-    omega arith
+-- fields in a row: `size` bytes of them, behind the directory
+module _ (s : List ℕ) (at size : ℕ) (row : inRow s (at + baseAt s at) size (directoryAt s at) 0 ≡ true) where
+  -- each lies there
+  field-in : (j : ℕ) → j < countAt s at → FieldIn s at (at + baseAt s at + size) (fieldAt s at j)
+  unfolding fieldAt
+  field-in j less =
+      let es = directoryAt s at in
+      let facts = row-in s (at + baseAt s at) size 0 es j row (rw (directory-length s at) less) in
+      let long = facts .0 in
+      let within = facts .1 in
+      record {
+        after = omega arith;
+        long = long;
+        within = omega arith;
+        ends = rw (add-assoc (at + baseAt s at) (position (getD es j [])) (len (getD es j []))) (facts .2);
+      }
 
--- each field starts where the one before it ends
-pub field-next : (s : List ℕ) (n k at j : ℕ) → frameOf s ≡ Records n → k < n → at ≡ recordAt s k → j + 1 < countAt s at
-    → fieldAt s at (j + 1) .start ≡ fieldAt s at j .start + fieldAt s at j .length
-unfolding fieldAt
-field-next s n k at j v h e less =
-    let row = record-row (eqb k 0) s at (rw e (good-at s n k v h)) in
-    let next = row-next s (at + baseAt s at) (sizeAt s at - baseAt s at) 0 (directoryAt s at) j row (rw (directory-length s at) less) in
-    rw (add-one j) (omega arith)
+  -- the first starts at the base address
+  field-first : 1 ≤ countAt s at → fieldAt s at 0 .start ≡ at + baseAt s at
+  unfolding fieldAt
+  field-first some =
+      let z : position (getD (directoryAt s at) 0 []) ≡ 0 = row-first s (at + baseAt s at) size 0 (directoryAt s at) row (rw (directory-length s at) some) in
+      omega arith
+
+  -- each starts where the one before it ends
+  field-next : (j : ℕ) → j + 1 < countAt s at → fieldAt s at (j + 1) .start ≡ fieldAt s at j .start + fieldAt s at j .length
+  unfolding fieldAt
+  field-next j less =
+      let next = row-next s (at + baseAt s at) size 0 (directoryAt s at) j row (rw (directory-length s at) less) in
+      rw (add-one j) (omega arith)
+
+  -- so that they can be read
+  pub fields-row : Headed s at → at + baseAt s at + size ≤ length s → baseAt s at + size ≤ 300000 → FieldsIn s at
+  fields-row headed fits small = record {
+    headed = headed;
+    end = at + baseAt s at + size;
+    fits = fits;
+    small = omega arith;
+    fields = field-in;
+    front = field-first (headed .some);
+    gapless = field-next;
+  }
 
 -- each record with its fields
 pub record-in : (s : List ℕ) (n k at : ℕ) → frameOf s ≡ Records n → k < n → at ≡ recordAt s k → RecordIn s at
-record-in s n k at v h e = record {
-  framed = framed-at s n k at v h e;
-  fields = λ (j : ℕ) (less : j < countAt s at). field-in s n k at j v h e less;
-  front = field-first s n k at v h e;
-  gapless = λ (j : ℕ) (less : j + 1 < countAt s at). field-next s n k at j v h e less;
+record-in s n k at v h e =
+    let framed = framed-at s n k at v h e in
+    let high = framed .high in
+    let size = sizeAt s at - baseAt s at in
+    let end : at + baseAt s at + size ≡ endOf s at = omega arith in
+    let row = record-row (eqb k 0) s at (rw e (good-at s n k v h)) in
+    record {
+      framed = framed;
+      fields = λ (j : ℕ) (less : j < countAt s at). rw (← end) (field-in s at size row j less);
+      front = field-first s at size row (framed .headed .some);
+      gapless = field-next s at size row;
+    }
+
+-- the same by its directory alone
+pub fields-in : {s : List ℕ} {at : ℕ} → RecordIn s at → FieldsIn s at
+fields-in {s} {at} known = record {
+  headed = known .framed .headed;
+  end = endOf s at;
+  fits = known .framed .fits;
+  small = let small = known .framed .small in omega arith;
+  fields = known .fields;
+  front = known .front;
+  gapless = known .gapless;
 }
 
 -- ---- a walk over the fields of a record: where each starts

@@ -108,14 +108,21 @@ record-framed first s at good =
     let low : 25 + w ≤ base = leb-true _ _ (b .0) in
     let even : (base - 25) % w ≡ 0 = eqb-true _ _ (b .1) in
     let sum : (base - 25) / w * w + (base - 25) % w ≡ base - 25 = div-add-mod' (base - 25) w in
+    let fits : at + size ≤ length s = leb-true _ _ (a .1) in
+    let small : size ≤ 99999 = leb-true _ _ (a .0) in
+    let high : base ≤ size = leb-true _ _ (a .2) in
     record {
-      led = led first s at true (sym (p .0)) refl;
-      fits = leb-true _ _ (a .1);
-      small = leb-true _ _ (a .0);
-      low = low;
-      high = leb-true _ _ (a .2);
-      whole = omega arith;
-      some = le-div-iff-mul-le {k = w} {x = 1} {y = base - 25} (omega arith) .1 (omega arith);
+      headed = record {
+        led = led first s at true (sym (p .0)) refl;
+        room = omega arith;
+        short = omega arith;
+        low = low;
+        whole = omega arith;
+        some = le-div-iff-mul-le {k = w} {x = 1} {y = base - 25} (omega arith) .1 (omega arith);
+      };
+      fits = fits;
+      small = small;
+      high = high;
     }
 
 pub record-row : (first : Bool) (s : List ℕ) (at : ℕ) → recordGood first s at ≡ true → inRow s (at + baseAt s at) (sizeAt s at - baseAt s at) (directoryAt s at) 0 ≡ true

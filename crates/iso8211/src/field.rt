@@ -1,10 +1,10 @@
-// The fields of a record whose framing is good.
+// The fields of a record, by its leader and its directory.
 ghost use Prim.Native.Nat.{_+_, _*_, _≤_, _<_};
 ghost use mathlib.Core.Path.{_≡_};
 ghost use lib.ListN.{length};
 ghost use Rattle.iso8211.specs.Directory.{rowWidth};
 ghost use Rattle.iso8211.specs.Record.{endOf};
-ghost use Rattle.iso8211.specs.Field.{countAt, fieldAt, FramedAt, HeadOf, Rowed, Due};
+ghost use Rattle.iso8211.specs.Field.{countAt, fieldAt, Headed, FramedAt, HeadOf, Rowed, Due};
 use crate::directory::row_at;
 use crate::directory::tag_at;
 use crate::record::digit_at;
@@ -34,7 +34,7 @@ pub fn record_end(s: &[u8], at: usize) -> usize
 }
 
 pub fn head_of(s: &[u8], at: usize) -> Head
-    requires { ⌜ FramedAt (now s) at ⌝ }
+    requires { ⌜ Headed (now s) at ⌝ }
     ensures { λ r. ⌜ HeadOf (now (s .entry)) at r ⌝ }
 {
     let base = get_digits(s, at + 12, 5) as usize;

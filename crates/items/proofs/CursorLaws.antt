@@ -87,7 +87,7 @@ module _ (s : List ℕ) (at k field₀ field m : ℕ) (all : m ≡ countAt s at)
         let some = whole .1 in
         let few = count-few (shapeOf k) (contentAt s at field) in
         let inside = laid .inside .fields field less in
-        let within : f .start + f .length ≤ length s = rw read (let w = inside .within in let fits = laid .inside .framed .fits in omega arith) in
+        let within : f .start + f .length ≤ length s = rw read (let w = inside .within in let fits = laid .inside .fits in omega arith) in
         let long : 1 ≤ f .length = rw read (inside .long) in
         let now : entriesOf (shapeOf k) (joinFrom (countAt s at - field₀) s at k field₀)
         ≡ entriesOf (shapeOf k) (partAt s at k field) ++ entriesOf (shapeOf k) (joinFrom (countAt s at - (field + 1)) s at k (field + 1)) =

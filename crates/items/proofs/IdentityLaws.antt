@@ -10,7 +10,7 @@ use borrow.Author.Tests.{eq-eqb, ne-eqb}
 use Rattle.octets.specs.Number.{byteAt, numAt, Reads}
 use Rattle.iso8211.specs.Field.{fieldAt}
 use Rattle.iso8211.specs.declared.field.Field.{Field}
-use Rattle.items.specs.Identity.{idAt, rcnmAt, rcidAt, primAt, objlAt, foidAt, rankOf, versionAt, nameFrom, nameAt, wordFor, nameOf, placeOf, Identified, Featured}
+use Rattle.items.specs.Identity.{idAt, rcnmAt, rcidAt, primAt, objlAt, foidAt, rankOf, versionAt, ruinAt, nameFrom, nameAt, wordFor, nameOf, placeOf, Identified, Featured}
 
 -- ---- classes
 few : (a b c : Bool) → cond a 0 (cond b 1 (cond c 2 3)) ≤ 3
@@ -101,6 +101,25 @@ module _ (s : List ℕ) (at id r : ℕ) (start : id ≡ idAt s at) where
     version-vector ne reads =
         let other : byteAt s (idAt s at) ≡ 100 → ⊥ = λ (e : byteAt s (idAt s at) ≡ 100). ne (named .is ∙ num-one s id ∙ rw start e) in
         (rw (ne-eqb (byteAt s (idAt s at)) 100 other) (rw start at (reads .is)), reads .small)
+
+    pub ruin-room : Identified s at → class ≡ 100 → id + 11 + 1 ≤ length s
+    unfolding rcnmAt
+    ruin-room known e =
+        let is : byteAt s (idAt s at) ≡ 100 = sym (named .is ∙ num-one s id ∙ rw start) ∙ e in
+        let long = known .feature is .long in
+        omega arith
+
+    pub ruin-feature : class ≡ 100 → Reads s (id + 11) 1 r → (r ≡ ruinAt s at) × (r < 256)
+    unfolding ruinAt rcnmAt
+    ruin-feature e reads =
+        let is : byteAt s (idAt s at) ≡ 100 = sym (named .is ∙ num-one s id ∙ rw start) ∙ e in
+        (rw (eq-eqb (byteAt s (idAt s at)) 100 is) (reads .is ∙ num-one s (id + 11) ∙ rw start), reads .small)
+
+    pub ruin-vector : (class ≡ 100 → ⊥) → Reads s (id + 7) 1 r → (r ≡ ruinAt s at) × (r < 256)
+    unfolding ruinAt rcnmAt
+    ruin-vector ne reads =
+        let other : byteAt s (idAt s at) ≡ 100 → ⊥ = λ (e : byteAt s (idAt s at) ≡ 100). ne (named .is ∙ num-one s id ∙ rw start e) in
+        (rw (ne-eqb (byteAt s (idAt s at)) 100 other) (reads .is ∙ num-one s (id + 7) ∙ rw start), reads .small)
 
 pub foid-read : (s : List ℕ) (at r : ℕ) (f : Field) → f ≡ fieldAt s at 2 → Reads s (f .start) 8 r → r ≡ foidAt s at
 unfolding foidAt

@@ -10,8 +10,6 @@ use native.Mathlib.Omega.{arith}
 use lib.ListN.{length, length-append, length-take}
 use borrow.Author.Tests.{eq-eqb, ne-eqb}
 use Rattle.octets.proofs.Cases.{eq-or-ne}
-use Rattle.iso8211.specs.Leader.{sizeAt}
-use Rattle.iso8211.specs.Record.{endOf}
 use Rattle.iso8211.specs.Field.{countAt, fieldAt}
 use Rattle.iso8211.specs.declared.field.Field.{Field}
 use Rattle.entries.specs.declared.Shape.{Shape}
@@ -112,7 +110,7 @@ module _ (s : List ℕ) (at j : ℕ) (f : Field) (laid : LaidOut s at) (read : f
   field-some = rw read (laid .inside .fields j h .long)
 
   pub field-fits : f .start + f .length ≤ length s
-  field-fits = rw read (let within = laid .inside .fields j h .within in let fits = laid .inside .framed .fits in omega arith)
+  field-fits = rw read (let within = laid .inside .fields j h .within in let fits = laid .inside .fits in omega arith)
 
   -- where the closing 1E stands
   pub field-ends : f .start + (f .length - 1) ≤ length s
@@ -127,7 +125,7 @@ part-short s at k j =
     (eq-or-ne (kindAt s at j) k)
 
 module _ (s : List ℕ) (at k : ℕ) (laid : LaidOut s at) where
-  join-short : (n j : ℕ) → j + suc n ≡ countAt s at → fieldAt s at j .start + length (joinFrom (suc n) s at k j) ≤ endOf s at
+  join-short : (n j : ℕ) → j + suc n ≡ countAt s at → fieldAt s at j .start + length (joinFrom (suc n) s at k j) ≤ laid .inside .end
   unfolding joinFrom
   join-short zero j e =
       let inside = laid .inside .fields j (omega arith) in
@@ -138,7 +136,7 @@ module _ (s : List ℕ) (at k : ℕ) (laid : LaidOut s at) where
       let next = laid .inside .gapless j (omega arith) in
       rw (length-append (partAt s at k j)) (omega (arith, part-short s at k j))
 
-  pub list-short : length (listAt s at k) ≤ sizeAt s at
+  pub list-short : at + length (listAt s at k) ≤ laid .inside .end
   unfolding listAt
   list-short =
       let two = laid .two in
@@ -151,7 +149,7 @@ module _ (s : List ℕ) (at k : ℕ) (laid : LaidOut s at) where
       omega arith
 
   pub list-fits : length (listAt s at k) ≤ length s
-  list-fits = let fits = laid .inside .framed .fits in omega (arith, list-short)
+  list-fits = let fits = laid .inside .fits in omega (arith, list-short)
 
   -- and has no more entries than bytes
   pub list-few : length (entriesAt s at k) ≤ length s

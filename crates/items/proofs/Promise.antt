@@ -14,14 +14,14 @@ use Rattle.layout.specs.Layout.{filled}
 use Rattle.layout.specs.Record.{kindAt, contentAt, Laid}
 use Rattle.items.specs.Lists.{LaidOut}
 use Rattle.items.specs.Identity.{idAt, rcnmAt, Identified, Featured}
-use Rattle.iso8211.proofs.Promise.{record-in}
+use Rattle.iso8211.proofs.Promise.{record-in, fields-in}
 use Rattle.layout.proofs.Promise.{content-length, laid-feature, full-vrid, full-frid, full-foid}
 
 -- ---- a record that is laid out
 pub laid-out : (s : List ℕ) (n k at : ℕ) → frameOf s ≡ Records n → k < n → at ≡ recordAt s k → 2 ≤ countAt s at
     → ((j : ℕ) → j < countAt s at → filled (kindAt s at j) (contentAt s at j) ≡ true) → LaidOut s at
 laid-out s n k at v h e two full = record {
-  inside = record-in s n k at v h e;
+  inside = fields-in (record-in s n k at v h e);
   two = two;
   fills = full;
 }
@@ -42,7 +42,7 @@ module _ (s : List ℕ) (at : ℕ) (laid : LaidOut s at) where
   content-long j m h e =
       let f = laid .inside .fields j h in
       let within = f .within in
-      let fits = laid .inside .framed .fits in
+      let fits = laid .inside .fits in
       omega (arith, e, content-length s at j (laid .inside) h)
 
   pub vrid-long : kindAt s at 1 ≡ VRID → idAt s at + 8 ≤ length s

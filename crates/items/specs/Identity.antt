@@ -40,6 +40,10 @@ rankOf rcnm = cond (eqb rcnm 110) 0 (cond (eqb rcnm 120) 1 (cond (eqb rcnm 130) 
 unfoldable pub versionAt : List ℕ → ℕ → ℕ
 versionAt s at = cond (eqb (rcnmAt s at) 100) (numAt s (idAt s at + 9) 2) (numAt s (idAt s at + 5) 2)
 
+-- "RUIN 1 insert, 2 delete, 3 modify": the byte at 7 in VRID, at 11 in FRID
+unfoldable pub ruinAt : List ℕ → ℕ → ℕ
+ruinAt s at = cond (eqb (rcnmAt s at) 100) (byteAt s (idAt s at + 11)) (byteAt s (idAt s at + 7))
+
 -- a name as a number, by which names are compared and put into held order
 unfoldable pub nameFrom : ℕ → ℕ → ℕ
 nameFrom rcnm rcid = rankOf rcnm * 4294967296 + rcid

@@ -4,7 +4,7 @@ use mathlib.Core.Bool.{true, cond}
 use mathlib.Core.List.{List, [], _++_}
 use mathlib.Core.Path.{_≡_}
 use lib.Dec.{eqb}
-use Rattle.iso8211.specs.Field.{countAt, fieldAt, HeadOf, RecordIn}
+use Rattle.iso8211.specs.Field.{countAt, fieldAt, HeadOf, FieldsIn}
 use Rattle.iso8211.specs.declared.field.Head.{Head}
 use Rattle.entries.specs.Entries.{entriesOf}
 use Rattle.table.specs.Table.{rowOf}
@@ -28,9 +28,9 @@ listAt s at k = joinFrom (countAt s at) s at k 0
 unfoldable pub entriesAt : List ℕ → ℕ → ℕ → List (List ℕ)
 entriesAt s at k = entriesOf (shapeOf k) (listAt s at k)
 
--- a record that is framed and laid out: its fields lie in it and "follow without gaps", and each is filled by its subfields
+-- a record that is laid out: its fields lie in the file and "follow without gaps", and each is filled by its subfields
 pub record LaidOut (s : List ℕ) (at : ℕ) : Type 0 where
-  pub inside : RecordIn s at
+  pub inside : FieldsIn s at
   pub two : 2 ≤ countAt s at
   pub fills : (j : ℕ) → j < countAt s at → filled (kindAt s at j) (contentAt s at j) ≡ true
 

@@ -4,7 +4,7 @@ ghost use mathlib.Core.Path.{_≡_};
 ghost use lib.ListN.{length};
 ghost use Rattle.iso8211.specs.Field.{countAt, HeadOf};
 ghost use Rattle.items.specs.Lists.{LaidOut};
-ghost use Rattle.items.specs.Identity.{idAt, rcnmAt, rcidAt, primAt, objlAt, foidAt, rankOf, versionAt, nameAt, wordFor, Identified, Featured};
+ghost use Rattle.items.specs.Identity.{idAt, rcnmAt, rcidAt, primAt, objlAt, foidAt, rankOf, versionAt, ruinAt, nameAt, wordFor, Identified, Featured};
 use iso8211::field::Head;
 use iso8211::field::field_at;
 use octets::number::get1;
@@ -76,6 +76,18 @@ pub fn version_of(s: &[u8], at: usize, h: Head) -> u32
         return get2(s, id + 9);
     }
     get2(s, id + 5)
+}
+
+// RUIN: 1 insert, 2 delete, 3 modify.
+pub fn ruin_of(s: &[u8], at: usize, h: Head) -> u32
+    requires { ⌜ LaidOut (now s) at × HeadOf (now s) at h × Identified (now s) at ⌝ }
+    ensures { λ r. ⌜ (r ≡ ruinAt (now (s .entry)) at) × (r < 256) ⌝ }
+{
+    let id = id_at(s, at, h);
+    if get1(s, id) == 100 {
+        return get1(s, id + 11);
+    }
+    get1(s, id + 7)
 }
 
 // The place of a class in held order.

@@ -33,7 +33,7 @@ module _ (k : ℕ) (c : List ℕ) (row : Kind) (told : row ≡ kindRow k) (one :
 
 -- ---- where a field lies
 module _ (s : List ℕ) (at j count : ℕ) (known : RecordIn s at) (all : count ≡ countAt s at) (more : j < count) (f : Field) (read : f ≡ fieldAt s at j) where
-  field-known : FieldIn s at f
+  field-known : FieldIn s at (endOf s at) f
   field-known = rw read (known .fields j (omega arith))
 
   pub field-long : 1 ≤ f .length

@@ -16,10 +16,9 @@ use Rattle.octets.proofs.Tests.{all3}
 use Rattle.iso8211.specs.Leader.{baseAt, lengthDigits, positionDigits}
 use Rattle.iso8211.specs.Directory.{rowWidth}
 use Rattle.iso8211.specs.Record.{endOf}
-use Rattle.iso8211.specs.Field.{countAt, fieldAt, FramedAt, RecordIn}
+use Rattle.iso8211.specs.Field.{countAt, fieldAt, FramedAt, RecordIn, FieldsIn}
 use Rattle.iso8211.specs.File.{frameOf, recordAt}
 use Rattle.iso8211.specs.declared.file.Framed.the-variants.{Records}
-use Rattle.iso8211.proofs.Promise.{framed-at, field-in}
 use Rattle.entries.specs.Entries.{Whole, entriesOf}
 use Rattle.entries.proofs.EntriesLaws.{whole-good}
 use Rattle.values.specs.Dsid.{DsidLaid}
@@ -129,14 +128,14 @@ module _ (update : Bool) (stage : ℕ) (marks s : List ℕ) (at : ℕ) (none : l
     unfolding layoutFault before
     layout-end =
         end-from update stage marks s at (countAt s at) 0 start none refl (omega arith)
-        (let a = framed .low in let b = framed .high in omega arith)
+        (let a = framed .headed .low in let b = framed .high in omega arith)
 
     layout-two : 2 ≤ countAt s at
     unfolding mayEnd before
     layout-two =
         ⊎-elim (λ (two : 2 ≤ countAt s at). two)
         (λ (few : countAt s at < 2).
-        let some = framed .some in
+        let some = framed .headed .some in
         let one : countAt s at ≡ 1 = omega arith in
         let m : mayEnd (kindAt s at 0) ≡ true = rw one at layout-end in
         let f : mayEnd first ≡ true = rw (layout-head (omega arith)) at m in
@@ -321,9 +320,9 @@ full-control k c control h =
     full-single k c one two (five .0) h ∙ five .1
 
 -- its length, without the closing 1E
-pub content-length : (s : List ℕ) (at j : ℕ) → RecordIn s at → j < countAt s at → length (contentAt s at j) ≡ fieldAt s at j .length - 1
+pub content-length : (s : List ℕ) (at j : ℕ) → FieldsIn s at → j < countAt s at → length (contentAt s at j) ≡ fieldAt s at j .length - 1
 content-length s at j known h =
     let f = known .fields j h in
     let within = f .within in
-    let fits = known .framed .fits in
+    let fits = known .fits in
     simp (length-take, length-drop) (omega arith)

@@ -16,9 +16,9 @@ use Rattle.iso8211.proofs.Promise.{at-next, last-ends, record-in}
 record-long : {s : List ℕ} {at : ℕ} → RecordIn s at → 32 ≤ sizeAt s at
 record-long {s} {at} known =
     let framed = known .framed in
-    let field = known .fields 0 (framed .some) in
-    let low = framed .low in
-    let led = framed .led in
+    let field = known .fields 0 (framed .headed .some) in
+    let low = framed .headed .low in
+    let led = framed .headed .led in
     let l = led .l-low in
     let p = led .p-low in
     let a = field .after in

@@ -111,7 +111,8 @@ stand-vector {s} {w} stands bytes low =
 pub stand-last : {s : List ℕ} {w : ℕ} → Stands s w → ((i : ℕ) → byteAt s i < 256) → 3 * 72057594037927936 ≤ w → rankOf (rcnmAt s (placeOf w)) ≡ 3
 stand-last {s} {w} stands bytes high = omega (arith, stand-rank stands bytes, rank-few (rcnmAt s (placeOf w)))
 
-last-feature : (rcnm : ℕ) → rankOf rcnm ≡ 3 → (rcnm ≡ 110) ⊎ ((rcnm ≡ 120) ⊎ ((rcnm ≡ 130) ⊎ (rcnm ≡ 100))) → rcnm ≡ 100
+-- of the four classes only that of features comes last
+pub last-feature : (rcnm : ℕ) → rankOf rcnm ≡ 3 → (rcnm ≡ 110) ⊎ ((rcnm ≡ 120) ⊎ ((rcnm ≡ 130) ⊎ (rcnm ≡ 100))) → rcnm ≡ 100
 unfolding rankOf
 last-feature rcnm e class =
     ⊎-elim (λ (a : rcnm ≡ 110). let z : _≡_ {A = ℕ} 0 3 = rw a at e in absurd (omega arith))

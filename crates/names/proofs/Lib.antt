@@ -1,4 +1,4 @@
--- Laws of `names`: what the crates above may use is in NamesLaws, NeighboursLaws, ReadableLaws, NamedLaws, LookupLaws and HeldLaws; the
+-- Laws of `names`: what the crates above may use is in NamesLaws, NeighboursLaws, ReadableLaws, NamedLaws, LookupLaws, HeldLaws and OnceLaws; the
 -- others are for the proofs of this crate.
 pub mod WalkLaws
 pub mod NamesLaws
@@ -12,3 +12,4 @@ pub mod ComfLaws
 pub mod LookupLaws
 pub mod NamedLaws
 pub mod HeldLaws
+pub mod OnceLaws

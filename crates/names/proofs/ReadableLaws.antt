@@ -7,7 +7,7 @@ use native.Mathlib.Omega.{arith}
 use Rattle.iso8211.specs.Field.{FramedAt}
 use Rattle.iso8211.specs.File.{frameOf, recordAt}
 use Rattle.iso8211.specs.declared.file.Framed.the-variants.{Records}
-use Rattle.iso8211.proofs.Promise.{framed-at, records-few, record-in}
+use Rattle.iso8211.proofs.Promise.{framed-at, records-few, record-in, fields-in}
 use Rattle.table.specs.Table.{DSSI, DSPM}
 use Rattle.layout.specs.Layout.{filled}
 use Rattle.layout.specs.Record.{contentAt, Laid}
@@ -27,7 +27,7 @@ module _ {update : Bool} {s : List ℕ} {n : ℕ} (readable : Readable update s 
 
   -- a record's place fits the 24 bits that a word has for it
   pub place-small : (k : ℕ) → k < n → recordAt s k < 16777216
-  place-small k h = let there = readable-framed k (recordAt s k) h refl .led .there in let short = readable .short in omega arith
+  place-small k h = let there = readable-framed k (recordAt s k) h refl .headed .led .there in let short = readable .short in omega arith
 
 -- a cell has its first three records
 pub readable-three : {s : List ℕ} {n : ℕ} → Readable false s n → 3 ≤ n
@@ -56,7 +56,7 @@ dssi-there {marks} {s} n v h laid =
     record {
       framed = inside .framed;
       third = omega arith;
-      whole = omega (arith, full-dssi (contentAt s at 2) full, content-length s at 2 inside (omega arith));
+      whole = omega (arith, full-dssi (contentAt s at 2) full, content-length s at 2 (fields-in inside) (omega arith));
     }
 
 -- "then 0001 DSPM": it is there once record 2 is laid out; that COMF is not above its most is Value's
@@ -73,6 +73,6 @@ dspm-there {marks} {s} n v h laid few =
     record {
       framed = inside .framed;
       second = omega arith;
-      whole = omega (arith, long, content-length s at 1 inside (omega arith));
+      whole = omega (arith, long, content-length s at 1 (fields-in inside) (omega arith));
       few = few;
     }

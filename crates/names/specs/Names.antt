@@ -45,3 +45,7 @@ pub record Readable (update : Bool) (s : List ℕ) (n : ℕ) : Type 0 where
 -- words in the file's order: their places ascend
 pub record Ascending (ws : List ℕ) : Type 0 where
   pub up : (p q : ℕ) → p < q → q < length ws → placeOf (getD ws p 0) < placeOf (getD ws q 0)
+
+-- words in held order of a file without a name twice: their names rise
+pub record Strict (ws : List ℕ) : Type 0 where
+  pub up : (p q : ℕ) → p < q → q < length ws → nameOf (getD ws p 0) < nameOf (getD ws q 0)

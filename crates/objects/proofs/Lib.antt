@@ -4,6 +4,7 @@ pub mod KindLaws
 pub mod LaidLaws
 pub mod IdLaws
 pub mod ObjectLaws
+pub mod ItemLaws
 pub mod JoinLaws
 pub mod ReadLaws
 pub mod BytesLaws

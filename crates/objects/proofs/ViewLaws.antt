@@ -67,10 +67,10 @@ list-seen s at k fs e = join-from (countAt s at) s at k 0 ∙ ap (listIn k) e
 -- ---- the other way: a record that was read
 module _ (s : List ℕ) (at : ℕ) (known : RecordIn s at) where
   start-some : (j : ℕ) → j < countAt s at → 1 ≤ fieldAt s at j .start
-  start-some j h = let a = known .fields j h .after in let l = known .framed .low in omega arith
+  start-some j h = let a = known .fields j h .after in let l = known .framed .headed .low in omega arith
 
   end-some : 1 ≤ endOf s at
-  end-some = let a = known .framed .low in let b = known .framed .high in omega arith
+  end-some = let a = known .framed .headed .low in let b = known .framed .high in omega arith
 
   told-from : (n : ℕ) (update : Bool) (stage : ℕ) (marks : List ℕ) (j prev : ℕ) → j + n ≡ countAt s at → laidFrom n update stage marks s at j prev ≡ 0
       → laidIn update stage marks prev (piecesFrom n s at j) ≡ true

@@ -6,15 +6,15 @@ use mathlib.Core.Logic.{⊎-elim}
 use mathlib.Core.Path.{_≡_, refl, sym, ap, _∙_}
 use native.Mathlib.Omega.{arith}
 use lib.ListN.{length}
-use lib.Dec.{eqb, ltb}
-use borrow.Author.Tests.{eq-eqb, ne-eqb, lt-ltb, le-ltb, ltb-false}
+use lib.Dec.{ltb}
+use borrow.Author.Tests.{lt-ltb, le-ltb, ltb-false}
 use Rattle.octets.proofs.Cases.{true-or-false}
 use Rattle.iso8211.specs.File.{frameOf, recordAt}
 use Rattle.iso8211.specs.declared.file.Framed.{Framed}
 use Rattle.iso8211.specs.declared.file.Framed.the-variants.{Records, Broken}
 use Rattle.iso8211.proofs.Promise.{records-few}
 use Rattle.chart.specs.declared.read.Refusal.{Refusal}
-use Rattle.reader.specs.Reader.{answer, filed, framedFront, frontOf, cellFault, updateFault, workAnswer, cellChecked, cellAnswer, readCell, firstRefusal, bothChecked, bothAnswer, cellBefore, readBoth, Opened, Short}
+use Rattle.reader.specs.Reader.{answer, filed, framedFront, frontOf, cellFault, workAnswer, cellChecked, cellAnswer, readCell, bothChecked, bothAnswer, cellBefore, readBoth, Short}
 use Rattle.reader.specs.declared.answer.Answer.{Answer}
 use Rattle.reader.specs.declared.front.Front.{Front}
 use Rattle.reader.specs.declared.front.Front.the-variants.{Count, Refused}
@@ -63,15 +63,6 @@ module _ (cell update : List ℕ) (w n m : ℕ) (a : Answer) where
   pub both-work : w < 16 * (n + m) → a ≡ answer 3 0 0 (16 * (n + m)) 0 → a ≡ bothChecked cell update w n m
   unfolding bothChecked workAnswer
   both-work h e = e ∙ rw (lt-ltb _ _ h)
-
-  module _ (r : Refusal) (room : 16 * (n + m) ≤ w) (q : r ≡ cellFault cell n) where
-    pub both-cell : (r .code ≡ 0 → ⊥) → a ≡ filed 1 r → a ≡ bothChecked cell update w n m
-    unfolding bothChecked workAnswer firstRefusal
-    both-cell h e = e ∙ rw (le-ltb _ _ room, ← q, ne-eqb _ _ h)
-
-    pub both-update : (u : Refusal) → r .code ≡ 0 → u ≡ updateFault update m → a ≡ filed 2 u → a ≡ bothChecked cell update w n m
-    unfolding bothChecked workAnswer firstRefusal
-    both-update u z v e = e ∙ rw (le-ltb _ _ room, ← q, eq-eqb _ _ z, v)
 
 -- ---- update_opened, read_both
 module _ (cell update : List ℕ) (w n : ℕ) (f : Front) (a : Answer) (is : f ≡ frontOf 2 update) where

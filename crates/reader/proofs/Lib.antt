@@ -1,5 +1,6 @@
 -- Laws of `reader`.
 pub mod FrontLaws
 pub mod ReaderLaws
+pub mod BothLaws
 pub mod CallLaws
 pub mod Only

@@ -18,7 +18,7 @@ use Rattle.iso8211.specs.Field.{countAt, fieldAt, FramedAt, FieldIn, RecordIn}
 use Rattle.iso8211.specs.File.{frameOf, recordAt}
 use Rattle.iso8211.specs.declared.field.Field.{Field}
 use Rattle.iso8211.specs.declared.file.Framed.the-variants.{Records}
-use Rattle.iso8211.proofs.Promise.{record-in, at-next, at-first, last-ends}
+use Rattle.iso8211.proofs.Promise.{record-in, fields-in, at-next, at-first, last-ends}
 use Rattle.table.specs.Table.{kindOf, VRID, FRID, DSSI, DSPM}
 use Rattle.attributes.proofs.PartLaws.{part-byte, part-number}
 use Rattle.values.specs.Vrid.{isVector}
@@ -41,7 +41,7 @@ use Rattle.names.specs.Counts.{DssiThere, countsGood}
 use Rattle.names.specs.Comf.{comfAt, DspmThere}
 use Rattle.names.proofs.ReadableLaws.{dssi-there, dspm-there}
 use Rattle.names.specs.declared.twice.Repeat.{Repeat}
-use Rattle.reader.specs.Reader.{twiceRefusal, countsRefusal, cellFault, updateFault}
+use Rattle.reader.specs.Reader.{twiceRefusal, countsRefusal, cellFault, updateFault, ComeIn}
 
 rcnm-there : (s : List ℕ) (at : ℕ) → byteAt s (idAt s at + 0) ≡ rcnmAt s at
 unfolding rcnmAt
@@ -76,13 +76,13 @@ module _ (update : Bool) (s : List ℕ) (n k : ℕ) (framed : frameOf s ≡ Reco
   name-here : 0 < length (contentAt s (recordAt s k) 1) → byteAt (contentAt s (recordAt s k) 1) 0 ≡ rcnmAt s (recordAt s k)
   name-here some =
       let two = laid-here .two in
-      let size = content-length s (recordAt s k) 1 at-record (omega arith) in
+      let size = content-length s (recordAt s k) 1 (fields-in at-record) (omega arith) in
       part-byte s (idAt s (recordAt s k)) (fieldAt s (recordAt s k) 1 .length - 1) 0 (omega arith) ∙ rcnm-there s (recordAt s k)
 
   fair-here : Fair update (here .good .state .aall) (here .good .state .nall) (kindAt s (recordAt s k) 1) (contentAt s (recordAt s k) 1)
   fair-here =
       let two = laid-here .two in
-      fair update (here .good .state .aall) (here .good .state .nall) s (recordAt s k) at-record (here .good .valued) 1 (omega arith)
+      fair update (here .good .state .aall) (here .good .state .nall) s (recordAt s k) (fields-in at-record) (here .good .valued) 1 (omega arith)
 
   vector-here : kindAt s (recordAt s k) 1 ≡ VRID → isVector (rcnmAt s (recordAt s k)) ≡ true
   vector-here e =
@@ -102,7 +102,7 @@ module _ (update : Bool) (s : List ℕ) (n k : ℕ) (framed : frameOf s ≡ Reco
   factor-here e =
       let two = laid-here .two in
       let long = full-dspm (contentAt s (recordAt s k) 1) (rw e at (laid-here .full 1 (omega arith))) .long in
-      let size = content-length s (recordAt s k) 1 at-record (omega arith) in
+      let size = content-length s (recordAt s k) 1 (fields-in at-record) (omega arith) in
       let good = dspm-good (contentAt s (recordAt s k) 1) (fair-dspm _ e fair-here) in
       rw (part-number s (fieldAt s (recordAt s k) 1 .start) (fieldAt s (recordAt s k) 1 .length - 1) 16 4 (omega arith)) at (good .comf .1)
 
@@ -181,6 +181,17 @@ cell-good s n framed short z = readable false s n framed short (cell-passed s n 
 pub cell-comf : (s : List ℕ) (n : ℕ) → frameOf s ≡ Records n → cellFault s n .code ≡ 0 → DspmThere s
 cell-comf s n framed z = dspm-read s n framed (cell-passed s n z)
 
+-- ---- an update in which nothing was refused
+update-passed : (s : List ℕ) (n : ℕ) → updateFault s n .code ≡ 0 → readFault true s n .code ≡ 0
+unfolding updateFault
+update-passed s n z =
+    ⊎-elim (λ (h : readFault true s n .code ≡ 0). h)
+    (λ (h : readFault true s n .code ≡ 0 → ⊥). rw (ne-eqb (readFault true s n .code) 0 h) at z)
+    (eq-or-ne (readFault true s n .code) 0)
+
+pub update-good : (s : List ℕ) (n : ℕ) → frameOf s ≡ Records n → length s ≤ 5242880 → updateFault s n .code ≡ 0 → Readable true s n
+update-good s n framed short z = readable true s n framed short (update-passed s n z)
+
 -- ---- cell_fault and update_fault: one law for each way out
 module _ (s : List ℕ) (n : ℕ) (r : Refusal) (is : r ≡ readFault false s n) where
   pub cell-read : (r .code ≡ 0 → ⊥) → r ≡ cellFault s n
@@ -208,6 +219,13 @@ module _ (s : List ℕ) (n : ℕ) (r : Refusal) (is : r ≡ readFault false s n)
 -- the words are promised where there is no refusal
 pub held-refused : {s work : List ℕ} {n : ℕ} (a : Refusal) (k i p : ℕ) → a ≡ refusal (suc k) i p → a .code ≡ 0 → HeldIn s n work
 held-refused a k i p e z = absurd (let same : suc k ≡ 0 = sym (ap (λ (q : Refusal). q .code) e) ∙ z in omega arith)
+
+pub come-refused : {s work : List ℕ} {n : ℕ} (a : Refusal) (k i p : ℕ) → a ≡ refusal (suc k) i p → a .code ≡ 0 → ComeIn s n work
+come-refused a k i p e z = absurd (let same : suc k ≡ 0 = sym (ap (λ (q : Refusal). q .code) e) ∙ z in omega arith)
+
+pub come-words : {s work : List ℕ} {n : ℕ} → wordsIn work 0 (n - firstItem true) ≡ sorted (nameWords true s n) → ComeIn s n work
+unfolding firstItem
+come-words e = record { words = e }
 
 pub held-words : {s work : List ℕ} {n : ℕ} → wordsIn work 0 (n - firstItem false) ≡ sorted (nameWords false s n) → HeldIn s n work
 unfolding firstItem

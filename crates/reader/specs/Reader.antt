@@ -1,5 +1,5 @@
 -- Reading whole: from the bytes of a cell, or of a cell and an update, to "readable" or the one refusal. Assumes nothing.
-use Prim.Native.Nat.{ℕ, _+_, _*_, _≤_, _<_}
+use Prim.Native.Nat.{ℕ, _+_, _-_, _*_, _≤_, _<_}
 use mathlib.Core.Bool.{Bool, true, false, cond}
 use mathlib.Core.List.{List}
 use mathlib.Core.Path.{_≡_}
@@ -11,7 +11,9 @@ use Rattle.iso8211.specs.declared.file.Framed.{Framed}
 use Rattle.iso8211.specs.declared.file.Framed.the-variants.{Records, Broken}
 use Rattle.chart.specs.Read.{refusal, fine, readFault}
 use Rattle.chart.specs.declared.read.Refusal.{Refusal}
-use Rattle.names.specs.Names.{twiceOf}
+use Rattle.words.specs.Words.{wordsIn}
+use Rattle.words.specs.Order.{sorted}
+use Rattle.names.specs.Names.{nameWords, twiceOf}
 use Rattle.names.specs.Counts.{countsGood}
 use Rattle.names.specs.declared.twice.Repeat.{Repeat}
 use Rattle.reader.specs.declared.answer.Answer.{Answer}
@@ -94,7 +96,30 @@ pub record Opened (s : List ℕ) (n : ℕ) (work : List ℕ) : Type 0 where
   pub short : length s ≤ 5242880
   pub room : 16 * n ≤ length work
 
+-- a framed file of n records that is not too long, and 8 bytes of work for each: as many as its names want
+pub record Lent (s : List ℕ) (n : ℕ) (work : List ℕ) : Type 0 where
+  pub framed : frameOf s ≡ Records n
+  pub short : length s ≤ 5242880
+  pub room : 8 * n ≤ length work
+
 -- a framed file of n records that is not too long
 pub record Short (s : List ℕ) (n : ℕ) : Type 0 where
   pub framed : frameOf s ≡ Records n
   pub short : length s ≤ 5242880
+
+-- a framed cell of n records, a framed update of m, and 16 bytes of work for each record of the two
+pub record BothOpened (cell : List ℕ) (n : ℕ) (update : List ℕ) (m : ℕ) (work : List ℕ) : Type 0 where
+  pub held : Short cell n
+  pub come : Short update m
+  pub room : 16 * (n + m) ≤ length work
+
+-- ---- the names in the work area
+-- the first n - 2 words of the work area are those of the update's records, by name ascending
+pub record ComeIn (s : List ℕ) (n : ℕ) (work : List ℕ) : Type 0 where
+  pub words : wordsIn work 0 (n - 2) ≡ sorted (nameWords true s n)
+
+-- The work area once both files are read: room for as many words as the two have items, then the words of the cell's items, then those of the
+-- update's records, each by name ascending
+pub record BothIn (cell : List ℕ) (n : ℕ) (update : List ℕ) (m : ℕ) (work : List ℕ) : Type 0 where
+  pub held : wordsIn work (n - 3 + (m - 2)) (n - 3) ≡ sorted (nameWords false cell n)
+  pub come : wordsIn work (n - 3 + (m - 2) + (n - 3)) (m - 2) ≡ sorted (nameWords true update m)

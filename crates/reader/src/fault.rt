@@ -8,7 +8,7 @@ ghost use Rattle.words.specs.Words.{wordsIn};
 ghost use Rattle.words.specs.Order.{sorted};
 ghost use Rattle.names.specs.Names.{firstItem, nameWords, Readable, twiceOf};
 ghost use Rattle.names.specs.Held.{HeldIn};
-ghost use Rattle.reader.specs.Reader.{Opened, cellFault, updateFault};
+ghost use Rattle.reader.specs.Reader.{Lent, ComeIn, cellFault, updateFault};
 use chart::Refusal;
 use chart::read::read_fault;
 use chart::read::refuse;
@@ -21,7 +21,7 @@ use names::twice::twice;
 // The first name met twice, found by sorting the names in the work area; their words stay there, in
 // held order.
 fn repeated(s: &[u8], n: usize, update: bool, work: &mut [u8]) -> Repeat
-    requires { ⌜ Readable update (now s) n × (16 * n ≤ length (now work)) ⌝ }
+    requires { ⌜ Readable update (now s) n × (8 * n ≤ length (now work)) ⌝ }
     ensures { λ r. ⌜ r ≡ twiceOf update (now (s .entry)) n ⌝ }
     ensures { λ _. ⌜ wordsIn (now (work .exit)) 0 (n - firstItem update) ≡ sorted (nameWords update (now (s .entry)) n) ⌝ }
 {
@@ -32,7 +32,7 @@ fn repeated(s: &[u8], n: usize, update: bool, work: &mut [u8]) -> Repeat
 // A cell's codes 4 to 8. One without any has left the words of its items, in held order, in the work
 // area.
 pub fn cell_fault(s: &[u8], n: usize, work: &mut [u8]) -> Refusal
-    requires { ⌜ Opened (now s) n (now work) ⌝ }
+    requires { ⌜ Lent (now s) n (now work) ⌝ }
     ensures { λ r. ⌜ r ≡ cellFault (now (s .entry)) n ⌝ }
     ensures { λ r. ⌜ (r .code ≡ 0 → HeldIn (now (s .entry)) n (now (work .exit))) ⌝ }
 {
@@ -52,9 +52,11 @@ pub fn cell_fault(s: &[u8], n: usize, work: &mut [u8]) -> Refusal
     refuse(0, 0, 0)
 }
 
+// An update's codes 4 to 7. One without any has left the words of its records there, by name ascending.
 pub fn update_fault(s: &[u8], n: usize, work: &mut [u8]) -> Refusal
-    requires { ⌜ Opened (now s) n (now work) ⌝ }
+    requires { ⌜ Lent (now s) n (now work) ⌝ }
     ensures { λ r. ⌜ r ≡ updateFault (now (s .entry)) n ⌝ }
+    ensures { λ r. ⌜ (r .code ≡ 0 → ComeIn (now (s .entry)) n (now (work .exit))) ⌝ }
 {
     let r = read_fault(s, n, true);
     let code = r.code;

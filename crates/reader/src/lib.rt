@@ -2,6 +2,7 @@
 // the one refusal in document 01's order, codes 1 to 8. It takes the framing from `iso8211`, the
 // records from `chart` and the names from `names`; the work area it is lent is zero afterwards.
 pub mod answer;
+pub mod both;
 pub mod fault;
 pub mod front;
 pub mod read;

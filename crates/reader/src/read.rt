@@ -5,8 +5,8 @@ ghost use Rattle.reader.specs.Reader.{frontOf, cellChecked, bothChecked,
 use crate::answer::Answer;
 use crate::answer::answered;
 use crate::answer::filed;
+use crate::both::both_fault;
 use crate::fault::cell_fault;
-use crate::fault::update_fault;
 use crate::front::Front;
 use crate::front::opened;
 use octets::area::clear;
@@ -50,12 +50,7 @@ fn both_checked(cell: &[u8], update: &[u8], n: usize, m: usize, work: &mut [u8])
     if work.len() < 16 * (n + m) {
         return answered(3, 0, 0, 16 * (n + m), 0);
     }
-    let r = cell_fault(cell, n, work);
-    let code = r.code;
-    if code != 0 {
-        return filed(1, r);
-    }
-    filed(2, update_fault(update, m, work))
+    both_fault(cell, n, update, m, work)
 }
 
 // A framed cell of n records, and an update that is still to be opened.

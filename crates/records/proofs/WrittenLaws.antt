@@ -17,7 +17,8 @@ use Rattle.octets.proofs.DigitsLaws.{digits-length, number-read, fewest-least, 
 use Rattle.iso8211.specs.Leader.{sizeAt, baseAt, lengthDigits, positionDigits, kindGood, sizeGood, leaderGood}
 use Rattle.iso8211.specs.Directory.{tagAt, rowAt, rows, len, position, rowWidth}
 use Rattle.iso8211.specs.Record.{fieldGood, inRow, bodyGood, recordGood, endOf}
-use Rattle.iso8211.specs.Field.{countAt, directoryAt, fieldAt}
+use Rattle.iso8211.specs.Field.{countAt, directoryAt, fieldAt, Headed, FieldsIn}
+use Rattle.iso8211.proofs.Promise.{fields-row}
 use Rattle.records.specs.Pieces.{Piece, pieceOf, piecesFrom, piecesAt}
 use Rattle.records.specs.Written.{tagBytes, pieceLength, bodyOf, rowsFor, longest, farthest, lengthSize, positionSize, rowBytes, rowsBytes, baseFor, leaderOf, headOver}
 use Rattle.records.specs.Written.{headBytes, recordBytes, sizeOf, Fits}
@@ -110,10 +111,9 @@ in-row-read (f ∷ fs) s body size due e h =
     let rest = in-row-read fs s body size (due + n) (omega arith) (has-at (body + (due + n)) (omega arith) (has-tail r)) in
     rw (eq-eqb due due refl, le-leb 1 n (omega arith), le-leb (due + n) size (omega arith), eq-eqb _ _ last, rest)
 
--- ---- the leader
-pub record LeaderRead (s : List ℕ) (at size base l p : ℕ) : Type 0 where
+-- ---- the leader, but for the length of the record
+pub record LeaderRead (s : List ℕ) (at base l p : ℕ) : Type 0 where
   pub there : at + 24 ≤ length s
-  pub size-is : sizeAt s at ≡ size
   pub base-is : baseAt s at ≡ base
   pub data-is : byteAt s (at + 6) ≡ 68
   pub l-is : byteAt s (at + 20) ≡ 48 + l
@@ -121,11 +121,10 @@ pub record LeaderRead (s : List ℕ) (at size base l p : ℕ) : Type 0 where
   pub zero-is : byteAt s (at + 22) ≡ 48
   pub four-is : byteAt s (at + 23) ≡ 52
 
-leader-read : {s : List ℕ} {at : ℕ} (size base l p : ℕ) → size < 10 ^ 5 → base < 10 ^ 5 → Has s at (leaderOf size base l p) → LeaderRead s at size base l p
+leader-read : {s : List ℕ} {at : ℕ} (size base l p : ℕ) → base < 10 ^ 5 → Has s at (leaderOf size base l p) → LeaderRead s at base l p
 unfolding leaderOf digitsOf
-leader-read {s} {at} size base l p small low h = record {
+leader-read {s} {at} size base l p low h = record {
   there = omega (arith, h .room);
-  size-is = number-read 5 size small (has-left (digitsOf 5 size) (32 ∷ 68 ∷ 32 ∷ 32 ∷ 32 ∷ 32 ∷ 32 ∷ (digitsOf 5 base ++ (32 ∷ 32 ∷ 32 ∷ (48 + l) ∷ (48 + p) ∷ 48 ∷ 52 ∷ []))) h);
   base-is = number-read 5 base low
       (has-left (digitsOf 5 base) (32 ∷ 32 ∷ 32 ∷ (48 + l) ∷ (48 + p) ∷ 48 ∷ 52 ∷ [])
       (has-right (digitsOf 5 size ++ (32 ∷ 68 ∷ 32 ∷ 32 ∷ 32 ∷ 32 ∷ 32 ∷ [])) (digitsOf 5 base ++ (32 ∷ 32 ∷ 32 ∷ (48 + l) ∷ (48 + p) ∷ 48 ∷ 52 ∷ [])) h));
@@ -136,18 +135,15 @@ leader-read {s} {at} size base l p small low h = record {
   four-is = h .byte 23 (lit< tt);
 }
 
--- ---- the whole record
--- what the framing says of a record that was written from fs
-pub record RecordRead (s : List ℕ) (at : ℕ) (fs : List Piece) : Type 0 where
-  pub good : recordGood false s at ≡ true
-  pub size-is : sizeAt s at ≡ sizeOf fs
-  pub count-is : countAt s at ≡ length fs
-  pub rows-are : directoryAt s at ≡ rowsFor 0 fs
-  pub body-is : Has s (at + baseAt s at) (bodyOf fs)
+-- that length, where five digits can say it
+size-read : {s : List ℕ} {at : ℕ} (size base l p : ℕ) → size < 10 ^ 5 → Has s at (leaderOf size base l p) → sizeAt s at ≡ size
+unfolding leaderOf
+size-read size base l p small h =
+    number-read 5 size small (has-left (digitsOf 5 size) (32 ∷ 68 ∷ 32 ∷ 32 ∷ 32 ∷ 32 ∷ 32 ∷ (digitsOf 5 base ++ (32 ∷ 32 ∷ 32 ∷ (48 + l) ∷ (48 + p) ∷ 48 ∷ 52 ∷ []))) h)
 
-leader-good : {s : List ℕ} {at size base l p : ℕ} → LeaderRead s at size base l p → 1 ≤ l → l ≤ 9 → 1 ≤ p → p ≤ 9 → leaderGood false s at ≡ true
+leader-good : {s : List ℕ} {at base l p : ℕ} → LeaderRead s at base l p → 1 ≤ l → l ≤ 9 → 1 ≤ p → p ≤ 9 → leaderGood false s at ≡ true
 unfolding leaderGood kindGood sizeGood
-leader-good {s} {at} {size} {base} {l} {p} r a b c d =
+leader-good {s} {at} {base} {l} {p} r a b c d =
     rw (
       le-leb (at + 24) (length s) (r .there),
       r .data-is,
@@ -161,16 +157,53 @@ leader-good {s} {at} {size} {base} {l} {p} r a b c d =
       le-leb (48 + p) 57 (omega arith),
     )
 
-less : (a b : ℕ) → a + b - a ≡ b
-less a b = omega arith
-
 base-of : (fs : List Piece) → baseFor (rowsFor 0 fs) ≡ 25 + length fs * rowWidth (lengthSize (rowsFor 0 fs)) (positionSize (rowsFor 0 fs))
 unfolding baseFor
 base-of fs = rw (rows-count fs 0)
 
-pub record-read : (fs : List Piece) {s : List ℕ} {at : ℕ} → Fits fs → Has s at (recordBytes fs) → RecordRead s at fs
-unfolding recordBytes headBytes headOver sizeOf recordGood bodyGood countAt directoryAt
-record-read fs {s} {at} fit h =
+-- ---- leader and directory
+-- fields whose record can be read by its directory alone: it may be longer than the five digits in its leader can say
+pub record Loose (fs : List Piece) : Type 0 where
+  pub some : 1 ≤ length fs
+  pub short : baseFor (rowsFor 0 fs) ≤ 99999
+  pub small : sizeOf fs ≤ 300000
+
+pub fits-loose : {fs : List Piece} → Fits fs → Loose fs
+unfolding sizeOf
+fits-loose {fs} fit = let small : baseFor (rowsFor 0 fs) + length (bodyOf fs) ≤ 99999 = fit .small in record { some = fit .some; short = omega arith; small = omega arith }
+
+-- few fields have a short directory
+pub few-loose : (fs : List Piece) → 1 ≤ length fs → length fs ≤ 8 → sizeOf fs ≤ 300000 → Loose fs
+unfolding sizeOf
+few-loose fs some few small =
+    let es = rowsFor 0 fs in
+    let w = rowWidth (lengthSize es) (positionSize es) in
+    let l : lengthSize es ≤ 6 = fewest-most 5 (longest es) (omega (arith, longest-within fs 0)) in
+    let p : positionSize es ≤ 6 = fewest-most 5 (farthest es) (omega (arith, farthest-within fs 0)) in
+    let all : length fs * w ≤ 8 * w = mul-le-mul-right w few in
+    record { some = some; short = omega (arith, base-of fs); small = small }
+
+-- what stands in them if they were written from fs: base address, digit sizes l and p, n rows of w bytes
+pub record HeadRead (s : List ℕ) (at base l p n : ℕ) (fs : List Piece) : Type 0 where
+  pub led : LeaderRead s at base l p
+  pub l-some : 1 ≤ l
+  pub l-most : l ≤ 9
+  pub p-some : 1 ≤ p
+  pub p-most : p ≤ 9
+  pub l-of : lengthDigits s at ≡ l
+  pub p-of : positionDigits s at ≡ p
+  pub low : 25 + rowWidth l p ≤ base
+  pub sum : 25 + n * rowWidth l p ≡ base
+  pub whole : (base - 25) % rowWidth l p ≡ 0
+  pub count : (base - 25) / rowWidth l p ≡ n
+  pub rows-of : rows n s l p (at + 24) ≡ rowsFor 0 fs
+  pub closing : byteAt s (at + base - 1) ≡ 30
+  pub fields : Has s (at + base) (bodyOf fs)
+
+head-read : (fs : List Piece) {s : List ℕ} {at : ℕ} → Loose fs → Has s at (recordBytes fs)
+    → HeadRead s at (baseFor (rowsFor 0 fs)) (lengthSize (rowsFor 0 fs)) (positionSize (rowsFor 0 fs)) (length fs) fs
+unfolding recordBytes headBytes headOver sizeOf
+head-read fs {s} {at} fit h =
     let es = rowsFor 0 fs in
     let l = lengthSize es in
     let p = positionSize es in
@@ -182,49 +215,123 @@ record-read fs {s} {at} fit h =
     let n = length fs in
     let base-is : base ≡ 25 + n * w = base-of fs in
     let some = fit .some in
-    let small : size ≤ 99999 = fit .small in
+    let short : base ≤ 99999 = fit .short in
+    let small : size ≤ 300000 = fit .small in
     let long : longest es ≤ length body = longest-within fs 0 in
     let far : farthest es ≤ 0 + length body = farthest-within fs 0 in
     let l-some : 1 ≤ l = fewest-some (longest es) in
-    let l-most : l ≤ 5 = fewest-most 4 (longest es) (omega arith) in
+    let l-most : l ≤ 6 = fewest-most 5 (longest es) (omega arith) in
     let p-some : 1 ≤ p = fewest-some (farthest es) in
-    let p-most : p ≤ 5 = fewest-most 4 (farthest es) (omega arith) in
+    let p-most : p ≤ 6 = fewest-most 5 (farthest es) (omega arith) in
     let row : 1 * w ≤ n * w = mul-le-mul-right w some in
     let in-head = has-left head body h in
-    let led = leader-read size base l p (omega arith) (omega arith) (has-left (leaderOf size base l p) (rowsBytes l p es ++ (30 ∷ [])) in-head) in
+    let led = leader-read size base l p (omega arith) (has-left (leaderOf size base l p) (rowsBytes l p es ++ (30 ∷ [])) in-head) in
     let rest : Has s (at + 24) (rowsBytes l p es ++ (30 ∷ [])) = has-at (at + 24) (rw (leader-length size base l p)) (has-right (leaderOf size base l p) (rowsBytes l p es ++ (30 ∷ [])) in-head) in
-    let l-of : lengthDigits s at ≡ l = rw (led .l-is) (omega arith) in
-    let p-of : positionDigits s at ≡ p = rw (led .p-is) (omega arith) in
-    let rows-of : rows n s l p (at + 24) ≡ es = rows-read fs l p 0 (fewest-least (longest es)) (fewest-least (farthest es)) (has-left (rowsBytes l p es) (30 ∷ []) rest) in
-    let closing : byteAt s (at + base - 1) ≡ 30 =
-    ap (λ (k : ℕ). byteAt s k) (rw (rows-length l p es, rows-count fs 0) (omega arith)) ∙ has-head (has-right (rowsBytes l p es) (30 ∷ []) rest) in
-    let fields : Has s (at + base) body = has-at (at + base) (rw (head-length size l p es base, rows-count fs 0) (omega arith)) (has-right head body h) in
-    let in-row = in-row-read fs s (at + base) (length body) 0 (omega arith) (has-at (at + base + 0) (omega arith) fields) in
     let times : base - 25 ≡ n * w = omega arith in
-    let whole : (base - 25) % w ≡ 0 = rw times (mul-mod-left n w) in
-    let count : (base - 25) / w ≡ n = rw times (mul-div-left n (omega arith)) in
-    let inside : at + size ≤ length s = omega (arith, h .room, record-length fs) in
+    record {
+      led = led;
+      l-some = l-some;
+      l-most = omega arith;
+      p-some = p-some;
+      p-most = omega arith;
+      l-of = rw (led .l-is) (omega arith);
+      p-of = rw (led .p-is) (omega arith);
+      low = omega arith;
+      sum = sym base-is;
+      whole = rw times (mul-mod-left n w);
+      count = rw times (mul-div-left n (omega arith));
+      rows-of = rows-read fs l p 0 (fewest-least (longest es)) (fewest-least (farthest es)) (has-left (rowsBytes l p es) (30 ∷ []) rest);
+      closing = ap (λ (k : ℕ). byteAt s k) (rw (rows-length l p es, rows-count fs 0) (omega arith)) ∙ has-head (has-right (rowsBytes l p es) (30 ∷ []) rest);
+      fields = has-at (at + base) (rw (head-length size l p es base, rows-count fs 0) (omega arith)) (has-right head body h);
+    }
+
+-- ---- the whole record
+-- what its leader and its directory say of a record that was written from fs, whatever its length is
+pub record LooseRead (s : List ℕ) (at : ℕ) (fs : List Piece) : Type 0 where
+  pub inside : FieldsIn s at
+  pub count-is : countAt s at ≡ length fs
+  pub rows-are : directoryAt s at ≡ rowsFor 0 fs
+  pub body-is : Has s (at + baseAt s at) (bodyOf fs)
+
+pub loose-read : (fs : List Piece) {s : List ℕ} {at : ℕ} → Loose fs → Has s at (recordBytes fs) → LooseRead s at fs
+unfolding sizeOf countAt directoryAt
+loose-read fs {s} {at} fit h =
+    let r = head-read fs fit h in
+    let led = r .led in
+    let low = r .low in
+    let base = baseFor (rowsFor 0 fs) in
+    let size = length (bodyOf fs) in
+    let short = fit .short in
+    let small : base + size ≤ 300000 = fit .small in
+    let there : at + (base + size) ≤ length s = omega (arith, h .room, record-length fs) in
+    let count-is : countAt s at ≡ length fs = rw (led .base-is, r .l-of, r .p-of) (r .count) in
+    let rows-are : directoryAt s at ≡ rowsFor 0 fs = rw (led .base-is, r .l-of, r .p-of, r .count) (r .rows-of) in
+    let body-is : Has s (at + baseAt s at) (bodyOf fs) = rw (led .base-is) (r .fields) in
+    let headed : Headed s at = record {
+      led = record {
+        there = led .there;
+        l-low = rw (led .l-is) (omega (arith, r .l-some));
+        l-high = rw (led .l-is) (omega (arith, r .l-most));
+        p-low = rw (led .p-is) (omega (arith, r .p-some));
+        p-high = rw (led .p-is) (omega (arith, r .p-most));
+      };
+      room = rw (led .base-is) (omega arith);
+      short = rw (led .base-is) short;
+      low = rw (led .base-is, r .l-of, r .p-of) (r .low);
+      whole = rw (count-is, led .base-is, r .l-of, r .p-of) (r .sum);
+      some = rw count-is (fit .some);
+    } in
+    let row : inRow s (at + baseAt s at) size (directoryAt s at) 0 ≡ true =
+    rw rows-are (in-row-read fs s (at + baseAt s at) size 0 (omega arith) (has-at (at + baseAt s at + 0) (omega arith) body-is)) in
+    record {
+      inside = fields-row s at size row headed (rw (led .base-is) (omega arith)) (rw (led .base-is) small);
+      count-is = count-is;
+      rows-are = rows-are;
+      body-is = body-is;
+    }
+
+-- what the framing says of it where five digits can say its length
+pub record RecordRead (s : List ℕ) (at : ℕ) (fs : List Piece) : Type 0 where
+  pub good : recordGood false s at ≡ true
+  pub size-is : sizeAt s at ≡ sizeOf fs
+  pub loose : LooseRead s at fs
+
+less : (a b : ℕ) → a + b - a ≡ b
+less a b = omega arith
+
+pub record-read : (fs : List Piece) {s : List ℕ} {at : ℕ} → Fits fs → Has s at (recordBytes fs) → RecordRead s at fs
+unfolding recordBytes headBytes headOver sizeOf recordGood bodyGood
+record-read fs {s} {at} fit h =
+    let es = rowsFor 0 fs in
+    let base = baseFor es in
+    let body = bodyOf fs in
+    let size = base + length body in
+    let head = headOver size base (lengthSize es) (positionSize es) es in
+    let r = head-read fs (fits-loose fit) h in
+    let small : size ≤ 99999 = fit .small in
+    let size-is : sizeAt s at ≡ size =
+    size-read size base (lengthSize es) (positionSize es) (omega arith)
+    (has-left (leaderOf size base (lengthSize es) (positionSize es)) (rowsBytes (lengthSize es) (positionSize es) es ++ (30 ∷ [])) (has-left head body h)) in
+    let in-row = in-row-read fs s (at + base) (length body) 0 (omega arith) (has-at (at + base + 0) (omega arith) (r .fields)) in
     record {
       good = rw (
-        leader-good led l-some (omega arith) p-some (omega arith),
-        led .size-is,
-        led .base-is,
-        l-of,
-        p-of,
+        leader-good (r .led) (r .l-some) (r .l-most) (r .p-some) (r .p-most),
+        size-is,
+        r .led .base-is,
+        r .l-of,
+        r .p-of,
         le-leb size 99999 small,
-        le-leb (at + size) (length s) inside,
+        le-leb (at + size) (length s) (omega (arith, h .room, record-length fs)),
         le-leb base size (omega arith),
-        le-leb (25 + w) base (omega arith),
-        eq-eqb _ _ whole,
-        eq-eqb _ _ closing,
-        count,
-        rows-of,
+        le-leb (25 + rowWidth (lengthSize es) (positionSize es)) base (r .low),
+        eq-eqb _ _ (r .whole),
+        eq-eqb _ _ (r .closing),
+        r .count,
+        r .rows-of,
         less base (length body),
       ) in-row;
-      size-is = led .size-is;
-      count-is = rw (led .base-is, l-of, p-of) count;
-      rows-are = rw (led .base-is, l-of, p-of, count) rows-of;
-      body-is = rw (led .base-is) fields;
+      size-is = size-is;
+      loose = loose-read fs (fits-loose fit) h;
     }
 
 -- ---- its fields
@@ -243,9 +350,12 @@ pieces-read {s} at (f ∷ fs) before due j e i h =
     let short : n - 1 ≡ length (f .content) = omega arith in
     rw (here, rest, short, c)
 
-pub fields-read : {s : List ℕ} {at : ℕ} (fs : List Piece) → RecordRead s at fs → piecesAt s at ≡ fs
+pub loose-pieces : {s : List ℕ} {at : ℕ} (fs : List Piece) → LooseRead s at fs → piecesAt s at ≡ fs
 unfolding piecesAt
-fields-read {s} {at} fs r = rw (r .count-is) (pieces-read at fs [] 0 0 (r .rows-are) refl (has-at (at + baseAt s at + 0) (omega arith) (r .body-is)))
+loose-pieces {s} {at} fs r = rw (r .count-is) (pieces-read at fs [] 0 0 (r .rows-are) refl (has-at (at + baseAt s at + 0) (omega arith) (r .body-is)))
+
+pub fields-read : {s : List ℕ} {at : ℕ} (fs : List Piece) → RecordRead s at fs → piecesAt s at ≡ fs
+fields-read fs r = loose-pieces fs (r .loose)
 
 pub end-read : {s : List ℕ} {at : ℕ} (fs : List Piece) → RecordRead s at fs → endOf s at ≡ at + length (recordBytes fs)
 end-read {s} {at} fs r = rw (r .size-is, record-length fs)

@@ -19,11 +19,11 @@ use Rattle.records.specs.Pieces.{Piece}
 use Rattle.records.specs.Written.{bodyOf, rowsFor, baseFor, headBytes, recordBytes, sizeOf}
 use Rattle.records.proofs.WrittenLaws.{record-length}
 use Rattle.names.specs.declared.counts.Tally.{Tally}
-use Rattle.header.specs.Dsid.{dsidOf, dsidBytes}
+use Rattle.header.specs.Dsid.{dsidOf, dsidBytes, revised}
 use Rattle.header.specs.Dssi.{dssiBytes}
 use Rattle.header.specs.Known.{Known}
 use Rattle.header.proofs.DssiLaws.{dssi-length}
-use Rattle.reissue.specs.Front.{dsidFields, dspmFields, FieldThere, DsidIn, DsidSized}
+use Rattle.reissue.specs.Front.{dsidFields, dspmFields, revisedIn, dsidRows, opening, FieldThere, DsidIn, SizeFor, DsidSized, RevisedSized}
 
 -- ---- fields that are there
 pub field-there : {s : List ℕ} {at j : ℕ} {f : Field} → RecordIn s at → j < countAt s at → f ≡ fieldAt s at j → FieldThere s at j f
@@ -60,7 +60,7 @@ lent-known f so is = rw is (so .known)
 
 -- ---- rows and lengths
 pub dsid-rows : (d v : List ℕ) (n : ℕ) → length d ≡ n → length v ≡ 35
-    → rowsFor 0 (dsidFields d v) ≡ (808464433 ∷ 3 ∷ 0 ∷ []) ∷ (1146308932 ∷ (n + 1) ∷ 3 ∷ []) ∷ (1146311497 ∷ 36 ∷ (n + 4) ∷ []) ∷ []
+    → rowsFor 0 (dsidFields d v) ≡ dsidRows n
 unfolding rowsFor tagOf rowOf table asNumber bytes bytesOf
 dsid-rows d v n e f = let g : 3 + (n + 1) ≡ n + 4 = omega arith in rw (e, f, g)
 
@@ -89,18 +89,27 @@ size-is : (fs : List Piece) → sizeOf fs ≡ baseFor (rowsFor 0 fs) + length (b
 unfolding sizeOf
 size-is fs = refl
 
-module _ (rows : List (List ℕ)) (n base : ℕ) where
-  pub dsid-sized : (s : List ℕ) (at : ℕ) (f : List ℕ) → f ≡ contentAt s at 1 → n ≡ length (dsidBytes (dsidOf f)) → n ≤ length f + 22 → length f ≤ 99999
-      → take 3 rows ≡ (808464433 ∷ 3 ∷ 0 ∷ []) ∷ (1146308932 ∷ (n + 1) ∷ 3 ∷ []) ∷ (1146311497 ∷ 36 ∷ (n + 4) ∷ []) ∷ [] → base ≡ baseFor (take 3 rows) → base ≤ 217
-      → DsidSized s at (base + (40 + n))
-  dsid-sized s at f is size few short rowed based low = record {
-    is = λ v long.
-        let d = dsidBytes (dsidOf (contentAt s at 1)) in
-        let e : length d ≡ n = sym (size ∙ ap (λ (x : List ℕ). length (dsidBytes (dsidOf x))) is) in
-        sym (size-is (dsidFields d v) ∙ rw (dsid-rows d v n e long, dsid-long d v n e long, ← rowed, ← based));
-    few = omega arith;
-  }
+pub total-of : (rows : List (List ℕ)) (n base : ℕ) → take 3 rows ≡ dsidRows n → base ≡ baseFor (take 3 rows) → base ≤ 217 → SizeFor n (base + (40 + n))
+total-of rows n base rowed based low = record {
+  is = λ d v e long. sym (size-is (dsidFields d v) ∙ rw (dsid-rows d v n e long, dsid-long d v n e long, ← rowed, ← based));
+  few = omega arith;
+}
 
+pub dsid-sized : (s : List ℕ) (at : ℕ) (f : List ℕ) (n r : ℕ) → f ≡ contentAt s at 1 → length f ≤ 99999 → n ≡ length (dsidBytes (dsidOf f)) → n ≤ length f + 22 → SizeFor n r
+    → DsidSized s at r
+dsid-sized s at f n r is short size few so = record {
+  is = λ v long. so .is (dsidBytes (dsidOf (contentAt s at 1))) v (sym (size ∙ ap (λ (x : List ℕ). length (dsidBytes (dsidOf x))) is)) long;
+  few = let low = so .few in omega arith;
+}
+
+pub revised-sized : (s : List ℕ) (at : ℕ) (t : List ℕ) (by : ℕ) (f g : List ℕ) (n r : ℕ) → f ≡ contentAt s at 1 → length f ≤ 99999 → g ≡ contentAt t by 1
+    → n ≡ length (dsidBytes (revised (dsidOf f) (dsidOf g))) → n ≤ length f + 22 → SizeFor n r → RevisedSized s at t by r
+revised-sized s at t by f g n r is short by-is size few so = record {
+  is = λ v long. so .is (revisedIn s at t by) v (sym (size ∙ rw (is, by-is))) long;
+  few = let low = so .few in omega arith;
+}
+
+module _ (rows : List (List ℕ)) (n base : ℕ) where
   pub dspm-sized : (s : List ℕ) (at : ℕ) (f : List ℕ) → f ≡ contentAt s at 1 → n ≡ length f
       → take 2 rows ≡ (808464433 ∷ 3 ∷ 0 ∷ []) ∷ (1146310733 ∷ (n + 1) ∷ 3 ∷ []) ∷ [] → base ≡ baseFor (take 2 rows) → base + (4 + n) ≡ sizeOf (dspmFields (contentAt s at 1))
   dspm-sized s at f is size rowed based =
@@ -128,25 +137,7 @@ pub counts-put : {a b d : List ℕ} {place m r : ℕ} (s : List ℕ) (at i : ℕ
 unfolding aallAt nallAt
 counts-put s at i t is w x = ended (rw is at w) x
 
--- ---- the fields of the record of DSID
-pub named-room : {a b : List ℕ} {place m : ℕ} (s : List ℕ) (at : ℕ) (f : List ℕ) → place + (40 + length (dsidBytes (dsidOf (contentAt s at 1)))) ≤ length a
-    → Wrote a place (bytesOf 2 1 ++ (30 ∷ [])) b m
-    → m ≡ place + 3 → f ≡ contentAt s at 1 → m + (length (dsidBytes (dsidOf f)) + 1) ≤ length b
-named-room s at f room one three is = rw is (omega (arith, wrote-length one))
-
-pub counted-room : {a b d : List ℕ} {place m r : ℕ} (s : List ℕ) (at : ℕ) (f : List ℕ) → place + (40 + length (dsidBytes (dsidOf (contentAt s at 1)))) ≤ length a
-    → Wrote a place (bytesOf 2 1 ++ (30 ∷ [])) b m
-    → m ≡ place + 3 → f ≡ contentAt s at 1 → Wrote b m (dsidBytes (dsidOf f) ++ (30 ∷ [])) d r → r + 36 ≤ length d
-counted-room s at f room one three is two =
-    let w : Wrote _ _ (dsidBytes (dsidOf (contentAt s at 1)) ++ (30 ∷ [])) _ _ = rw is at two in
-    omega (arith, wrote-length one, w .end, wrote-length w, length-append (dsidBytes (dsidOf (contentAt s at 1))) (30 ∷ []))
-
-pub named-put : {a b d e : List ℕ} {place m q r : ℕ} (s : List ℕ) (at : ℕ) (f v : List ℕ) → Wrote a place (bytesOf 2 1 ++ (30 ∷ [])) b m → f ≡ contentAt s at 1
-    → Wrote b m (dsidBytes (dsidOf f) ++ (30 ∷ [])) d q
-    → Wrote d q (v ++ (30 ∷ [])) e r → Wrote a place (bodyOf (dsidFields (dsidBytes (dsidOf (contentAt s at 1))) v)) e r
-named-put s at f v one is two three =
-    wrote-as (bodyOf (dsidFields (dsidBytes (dsidOf (contentAt s at 1))) v)) (sym (dsid-body (dsidBytes (dsidOf (contentAt s at 1))) v)) (wrote-join one (wrote-join (rw is at two) three))
-
+-- ---- the fields of the record of DSPM
 pub dspm-put : {a b d e : List ℕ} {place m q r : ℕ} (f : List ℕ) → Wrote a place (bytesOf 2 2 ++ (30 ∷ [])) b m → Wrote b m f d q → Wrote d q (bytesOf 1 30) e r
     → Wrote a place (bodyOf (dspmFields f)) e r
 dspm-put f one two three = wrote-as (bodyOf (dspmFields f)) (sym (dspm-body f)) (wrote-join one (ended two three))
@@ -172,34 +163,110 @@ module _ (fs : List Piece) (rows : List (List ℕ)) (body : ℕ) (rowed : rowsFo
   record-put : {a b d : List ℕ} {place m r : ℕ} → Wrote a place (headBytes rows body) b m → Wrote b m (bodyOf fs) d r → Wrote a place (recordBytes fs) d r
   record-put w x = wrote-as (recordBytes fs) (sym record-parts) (wrote-join w x)
 
+-- ---- what stands before a DSID of n bytes
+pub opening-head : (rows : List (List ℕ)) (n place k : ℕ) → take 3 rows ≡ dsidRows n → place + length (opening n) ≤ k → place + length (headBytes (take 3 rows) (40 + n)) ≤ k
+unfolding opening
+opening-head rows n place k rowed room = rw rowed (omega (arith, length-append (headBytes (dsidRows n) (40 + n)) (bytesOf 2 1 ++ (30 ∷ []))))
+
+pub opening-first : {a b : List ℕ} {place m : ℕ} (rows : List (List ℕ)) (n : ℕ) → take 3 rows ≡ dsidRows n → place + length (opening n) ≤ length a
+    → Wrote a place (headBytes (take 3 rows) (40 + n)) b m → m + 3 ≤ length b
+unfolding opening bytesOf
+opening-first rows n rowed room w =
+    let x : Wrote _ _ (headBytes (dsidRows n) (40 + n)) _ _ = rw rowed at w in
+    omega (arith, x .end, wrote-length x, length-append (headBytes (dsidRows n) (40 + n)) (bytesOf 2 1 ++ (30 ∷ [])))
+
+pub opening-put : {a b d : List ℕ} {place m r : ℕ} (rows : List (List ℕ)) (n : ℕ) → take 3 rows ≡ dsidRows n → Wrote a place (headBytes (take 3 rows) (40 + n)) b m
+    → Wrote b m (bytesOf 2 1 ++ (30 ∷ [])) d r → Wrote a place (opening n) d r
+unfolding opening
+opening-put rows n rowed w x = wrote-join (rw rowed at w) x
+
+-- ---- the record of a DSID d of n bytes and a DSSI v: the opening, then these
+module _ (d v : List ℕ) (n : ℕ) (size : n ≡ length d) (long : length v ≡ 35) where
+  opened : recordBytes (dsidFields d v) ≡ opening n ++ ((d ++ (30 ∷ [])) ++ (v ++ (30 ∷ [])))
+  unfolding opening
+  opened =
+      record-parts (dsidFields d v) (dsidRows n) (40 + n) (dsid-rows d v n (sym size) long) (dsid-long d v n (sym size) long)
+      ∙ ap (λ (l : List ℕ). headBytes (dsidRows n) (40 + n) ++ l) (dsid-body d v)
+      ∙ sym (append-assoc (headBytes (dsidRows n) (40 + n)) (bytesOf 2 1 ++ (30 ∷ [])) ((d ++ (30 ∷ [])) ++ (v ++ (30 ∷ []))))
+
+  opened-length : sizeOf (dsidFields d v) ≡ length (opening n) + (n + 37)
+  opened-length =
+      sym (record-length (dsidFields d v)) ∙ ap length opened ∙ length-append (opening n) ((d ++ (30 ∷ [])) ++ (v ++ (30 ∷ [])))
+      ∙ rw (length-append (d ++ (30 ∷ [])), length-append d, length-append v, ← size, long) (omega arith)
+
+  module _ {a b : List ℕ} {place m : ℕ} (room : place + sizeOf (dsidFields d v) ≤ length a) (w : Wrote a place (opening n) b m) where
+    behind-opening : m + (length d + 1) ≤ length b
+    behind-opening = omega (arith, opened-length, w .end, wrote-length w)
+
+    behind-named : {e : List ℕ} {q : ℕ} → Wrote b m (d ++ (30 ∷ [])) e q → q + 36 ≤ length e
+    behind-named x = omega (arith, opened-length, w .end, wrote-length w, x .end, wrote-length x, length-append d (30 ∷ []))
+
+  opened-put : {a b e f : List ℕ} {place m q r : ℕ} → Wrote a place (opening n) b m → Wrote b m (d ++ (30 ∷ [])) e q → Wrote e q (v ++ (30 ∷ [])) f r
+      → Wrote a place (recordBytes (dsidFields d v)) f r
+  opened-put w x y = wrote-as (recordBytes (dsidFields d v)) (sym opened) (wrote-join w (wrote-join x y))
+
 -- ---- the record of DSID, its content f lent
-module _ (s : List ℕ) (at : ℕ) (t : Tally) (f : List ℕ) (rows : List (List ℕ)) (n : ℕ) (is : f ≡ contentAt s at 1) (size : n ≡ length (dsidBytes (dsidOf f)))
-    (rowed : take 3 rows ≡ (808464433 ∷ 3 ∷ 0 ∷ []) ∷ (1146308932 ∷ (n + 1) ∷ 3 ∷ []) ∷ (1146311497 ∷ 36 ∷ (n + 4) ∷ []) ∷ []) where
+module _ (s : List ℕ) (at : ℕ) (t : Tally) (f : List ℕ) (n : ℕ) (is : f ≡ contentAt s at 1) (size : n ≡ length (dsidBytes (dsidOf f))) where
   abbrev own : List ℕ
   own = dsidBytes (dsidOf (contentAt s at 1))
 
   abbrev counts : List ℕ
   counts = dssiBytes (aallAt s at) (nallAt s at) t
 
-  own-size : length own ≡ n
-  own-size = sym (size ∙ ap (λ (x : List ℕ). length (dsidBytes (dsidOf x))) is)
+  own-is : dsidBytes (dsidOf f) ≡ own
+  own-is = ap (λ (x : List ℕ). dsidBytes (dsidOf x)) is
 
-  own-rows : rowsFor 0 (dsidFields own counts) ≡ take 3 rows
-  own-rows = dsid-rows own counts n own-size (dssi-length (aallAt s at) (nallAt s at) t) ∙ sym rowed
+  own-size : n ≡ length own
+  own-size = size ∙ ap length own-is
 
-  own-long : length (bodyOf (dsidFields own counts)) ≡ 40 + n
-  own-long = dsid-long own counts n own-size (dssi-length (aallAt s at) (nallAt s at) t)
+  counts-long : length counts ≡ 35
+  counts-long = dssi-length (aallAt s at) (nallAt s at) t
 
-  pub dsid-head-room : (place k : ℕ) → place + sizeOf (dsidFields own counts) ≤ k → place + length (headBytes (take 3 rows) (40 + n)) ≤ k
-  dsid-head-room place k h = head-room (dsidFields own counts) (take 3 rows) (40 + n) own-rows own-long place k h
+  pub dsid-opening-room : (place k : ℕ) → place + sizeOf (dsidFields own counts) ≤ k → place + length (opening n) ≤ k
+  dsid-opening-room place k h = omega (arith, opened-length own counts n own-size counts-long)
 
-  pub dsid-fields-room : {a b : List ℕ} {place m : ℕ} → place + sizeOf (dsidFields own counts) ≤ length a → Wrote a place (headBytes (take 3 rows) (40 + n)) b m
-      → m + (40 + length own) ≤ length b
-  dsid-fields-room h w = let r = fields-room (dsidFields own counts) (take 3 rows) (40 + n) own-rows own-long h w in let e = own-size in omega arith
+  module _ {a b : List ℕ} {place m : ℕ} (w : Wrote a place (opening n) b m) where
+    pub dsid-named-room : place + sizeOf (dsidFields own counts) ≤ length a → m + (length (dsidBytes (dsidOf f)) + 1) ≤ length b
+    dsid-named-room room = rw own-is (behind-opening own counts n own-size counts-long room w)
 
-  pub dsid-record-put : {a b d : List ℕ} {place m r : ℕ} → Wrote a place (headBytes (take 3 rows) (40 + n)) b m → Wrote b m (bodyOf (dsidFields own counts)) d r
-      → Wrote a place (recordBytes (dsidFields own counts)) d r
-  dsid-record-put w x = record-put (dsidFields own counts) (take 3 rows) (40 + n) own-rows own-long w x
+    module _ {e : List ℕ} {q : ℕ} (x : Wrote b m (dsidBytes (dsidOf f) ++ (30 ∷ [])) e q) where
+      pub dsid-counts-room : place + sizeOf (dsidFields own counts) ≤ length a → q + 36 ≤ length e
+      dsid-counts-room room = behind-named own counts n own-size counts-long room w (rw own-is at x)
+
+      pub dsid-record-put : {g : List ℕ} {r : ℕ} → Wrote e q (counts ++ (30 ∷ [])) g r → Wrote a place (recordBytes (dsidFields own counts)) g r
+      dsid-record-put y = opened-put own counts n own-size counts-long w (rw own-is at x) y
+
+-- ---- the same of the result's, with the update's content g lent
+module _ (s : List ℕ) (at : ℕ) (u : List ℕ) (by : ℕ) (t : Tally) (f g : List ℕ) (n : ℕ) (is : f ≡ contentAt s at 1) (by-is : g ≡ contentAt u by 1)
+    (size : n ≡ length (dsidBytes (revised (dsidOf f) (dsidOf g)))) where
+  abbrev both : List ℕ
+  both = revisedIn s at u by
+
+  abbrev tally : List ℕ
+  tally = dssiBytes (aallAt s at) (nallAt s at) t
+
+  both-is : dsidBytes (revised (dsidOf f) (dsidOf g)) ≡ both
+  both-is = rw (is, by-is)
+
+  both-size : n ≡ length both
+  both-size = size ∙ ap length both-is
+
+  tally-long : length tally ≡ 35
+  tally-long = dssi-length (aallAt s at) (nallAt s at) t
+
+  pub revised-opening-room : (place k : ℕ) → place + sizeOf (dsidFields both tally) ≤ k → place + length (opening n) ≤ k
+  revised-opening-room place k h = omega (arith, opened-length both tally n both-size tally-long)
+
+  module _ {a b : List ℕ} {place m : ℕ} (w : Wrote a place (opening n) b m) where
+    pub revised-named-room : place + sizeOf (dsidFields both tally) ≤ length a → m + (length (dsidBytes (revised (dsidOf f) (dsidOf g))) + 1) ≤ length b
+    revised-named-room room = rw both-is (behind-opening both tally n both-size tally-long room w)
+
+    module _ {e : List ℕ} {q : ℕ} (x : Wrote b m (dsidBytes (revised (dsidOf f) (dsidOf g)) ++ (30 ∷ [])) e q) where
+      pub revised-counts-room : place + sizeOf (dsidFields both tally) ≤ length a → q + 36 ≤ length e
+      revised-counts-room room = behind-named both tally n both-size tally-long room w (rw both-is at x)
+
+      pub revised-record-put : {h : List ℕ} {r : ℕ} → Wrote e q (tally ++ (30 ∷ [])) h r → Wrote a place (recordBytes (dsidFields both tally)) h r
+      revised-record-put y = opened-put both tally n both-size tally-long w (rw both-is at x) y
 
 -- ---- the record of DSPM, its content f lent
 module _ (s : List ℕ) (at : ℕ) (f : List ℕ) (rows : List (List ℕ)) (is : f ≡ contentAt s at 1)

@@ -25,7 +25,7 @@ use Rattle.writing.specs.All.{objectsAt}
 use Rattle.reissue.specs.Tally.{classOf, withObjects}
 
 -- ---- a word's rank tells the class
-class-ranks : (rcnm : ℕ) → (rcnm ≡ 110) ⊎ ((rcnm ≡ 120) ⊎ ((rcnm ≡ 130) ⊎ (rcnm ≡ 100))) → (rankOf rcnm ≡ 3 → rcnm ≡ 100) × ((rankOf rcnm ≡ 3 → ⊥)
+pub class-ranks : (rcnm : ℕ) → (rcnm ≡ 110) ⊎ ((rcnm ≡ 120) ⊎ ((rcnm ≡ 130) ⊎ (rcnm ≡ 100))) → (rankOf rcnm ≡ 3 → rcnm ≡ 100) × ((rankOf rcnm ≡ 3 → ⊥)
     → (classOf (rankOf rcnm) ≡ rcnm) × (rcnm ≡ 100 → ⊥))
 unfolding rankOf classOf
 class-ranks rcnm (inl e) = rw e ((λ h. absurd (omega arith)), (λ h. (refl, λ g. omega arith)))
@@ -62,7 +62,7 @@ objects-next t s at ts =
     rw h (tally-same (omega arith) (omega arith) (omega arith) (omega arith) (omega arith) (omega arith)))
     (true-or-false (eqb (rcnmAt s at) 100))
 
-objects-none : (t : Tally) → withObjects t [] ≡ t
+pub objects-none : (t : Tally) → withObjects t [] ≡ t
 unfolding withObjects countIn
 objects-none t = tally-same (omega arith) (omega arith) (omega arith) (omega arith) (omega arith) (omega arith)
 

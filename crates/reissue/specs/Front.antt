@@ -1,6 +1,6 @@
 -- The records of DSID and of DSPM, over their contents. Nothing here need be believed. Assumes nothing.
 use Prim.Native.Nat.{ℕ, _+_, _≤_}
-use mathlib.Core.List.{List, [], _∷_}
+use mathlib.Core.List.{List, [], _∷_, _++_}
 use mathlib.Core.Path.{_≡_}
 use lib.ListN.{length}
 use Rattle.octets.specs.Number.{bytesOf}
@@ -11,9 +11,9 @@ use Rattle.layout.specs.Record.{contentAt}
 use Rattle.chart.specs.Read.{aallAt, nallAt}
 use Rattle.names.specs.declared.counts.Tally.{Tally}
 use Rattle.records.specs.Pieces.{Piece}
-use Rattle.records.specs.Written.{sizeOf}
+use Rattle.records.specs.Written.{headBytes, sizeOf}
 use Rattle.objects.specs.Object.{piece}
-use Rattle.header.specs.Dsid.{dsidOf, dsidBytes}
+use Rattle.header.specs.Dsid.{dsidOf, dsidBytes, revised}
 use Rattle.header.specs.Dssi.{dssiBytes}
 use Rattle.header.specs.Known.{Known}
 
@@ -29,6 +29,18 @@ dsidIn s at = dsidBytes (dsidOf (contentAt s at 1))
 
 abbrev pub dssiIn : List ℕ → ℕ → Tally → List ℕ
 dssiIn s at t = dssiBytes (aallAt s at) (nallAt s at) t
+
+-- what is written for the DSID of the result: the cell's is in the record at `at`, the update's in that at `by`
+abbrev pub revisedIn : List ℕ → ℕ → List ℕ → ℕ → List ℕ
+revisedIn cell at update by = dsidBytes (revised (dsidOf (contentAt cell at 1)) (dsidOf (contentAt update by 1)))
+
+-- the rows of the record of a DSID of n bytes: 0001, DSID, DSSI
+abbrev pub dsidRows : ℕ → List (List ℕ)
+dsidRows n = (808464433 ∷ 3 ∷ 0 ∷ []) ∷ (1146308932 ∷ (n + 1) ∷ 3 ∷ []) ∷ (1146311497 ∷ 36 ∷ (n + 4) ∷ []) ∷ []
+
+-- what stands before DSID there: leader, directory, and 0001
+unfoldable pub opening : ℕ → List ℕ
+opening n = headBytes (dsidRows n) (40 + n) ++ (bytesOf 2 1 ++ (30 ∷ []))
 
 -- field j of the record at `at`, and that its bytes are there
 pub record FieldThere (s : List ℕ) (at j : ℕ) (f : Field) : Type 0 where
@@ -52,3 +64,13 @@ pub record DspmIn (s : List ℕ) (at : ℕ) : Type 0 where
 pub record DsidSized (s : List ℕ) (at r : ℕ) : Type 0 where
   pub is : (v : List ℕ) → length v ≡ 35 → r ≡ sizeOf (dsidFields (dsidBytes (dsidOf (contentAt s at 1))) v)
   pub few : r ≤ 200000
+
+-- that of the result's DSID
+pub record RevisedSized (cell : List ℕ) (at : ℕ) (update : List ℕ) (by r : ℕ) : Type 0 where
+  pub is : (v : List ℕ) → length v ≡ 35 → r ≡ sizeOf (dsidFields (revisedIn cell at update by) v)
+  pub few : r ≤ 200000
+
+-- that of any DSID of n bytes
+pub record SizeFor (n r : ℕ) : Type 0 where
+  pub is : (d v : List ℕ) → length d ≡ n → length v ≡ 35 → r ≡ sizeOf (dsidFields d v)
+  pub few : r ≤ n + 257

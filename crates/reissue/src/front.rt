@@ -8,11 +8,14 @@ ghost use Rattle.octets.specs.Area.{Wrote};
 ghost use Rattle.iso8211.specs.Field.{countAt, fieldAt, RecordIn};
 ghost use Rattle.layout.specs.Record.{contentAt};
 ghost use Rattle.records.specs.Written.{bodyOf, recordBytes, sizeOf};
-ghost use Rattle.header.specs.Dsid.{dsidOf, dsidBytes};
+ghost use Rattle.header.specs.Dsid.{dsidOf, dsidBytes, revised};
 ghost use Rattle.header.specs.Known.{Known};
-ghost use Rattle.reissue.specs.Front.{dsidFields, dspmFields, dsidIn, dssiIn, FieldThere, DsidSized, DsidIn, DspmIn};
+ghost use Rattle.reissue.specs.Front.{dsidFields, dspmFields, dsidIn, revisedIn, dssiIn, dsidRows, opening};
+ghost use Rattle.reissue.specs.Front.{FieldThere, SizeFor, DsidSized, RevisedSized, DsidIn, DspmIn};
 use header::dsid::dsid_size;
 use header::dsid::put_dsid;
+use header::dsid::put_revised;
+use header::dsid::revised_size;
 use header::dssi::put_dssi;
 use iso8211::field::Field;
 use iso8211::field::field_at;
@@ -33,7 +36,7 @@ fn field_in(s: &[u8], at: usize, j: usize) -> Field
 }
 
 // The bytes of field j of the record at `at`, without its 1E.
-fn content<'a>(s: &'a [u8], at: usize, j: usize) -> &'a [u8]
+pub fn content<'a>(s: &'a [u8], at: usize, j: usize) -> &'a [u8]
     requires { ⌜ RecordIn (now s) at × (j < countAt (now s) at) ⌝ }
     ensures { λ r. ⌜ (now r ≡ contentAt (now (s .entry)) at j) × (length (now r) ≤ 99999) ⌝ }
 {
@@ -46,7 +49,7 @@ fn content<'a>(s: &'a [u8], at: usize, j: usize) -> &'a [u8]
 // The rows of the record of a DSID of `size` bytes.
 fn dsid_rows(size: u32) -> [[u32; 3]; 8]
     requires { ⌜ size ≤ 200000 ⌝ }
-    ensures { λ r. ⌜ take 3 r ≡ (808464433 ∷ 3 ∷ 0 ∷ []) ∷ (1146308932 ∷ (size + 1) ∷ 3 ∷ []) ∷ (1146311497 ∷ 36 ∷ (size + 4) ∷ []) ∷ [] ⌝ }
+    ensures { λ r. ⌜ take 3 r ≡ dsidRows size ⌝ }
 {
     let mut rows = [[0u32; 3]; 8];
     rows[0] = [0x30303031, 3, 0];
@@ -66,14 +69,33 @@ fn dspm_rows(size: u32) -> [[u32; 3]; 8]
     rows
 }
 
+// How many bytes the record of a DSID of `size` bytes has.
+fn total_of(size: u32) -> u32
+    requires { ⌜ size ≤ 150000 ⌝ }
+    ensures { λ r. ⌜ SizeFor size r ⌝ }
+{
+    let rows = dsid_rows(size);
+    base_of(rows, 3) + (40 + size)
+}
+
 // How many bytes the record of DSID, which is at `at`, has in held form.
 pub fn dsid_total(s: &[u8], at: usize) -> u32
     requires { ⌜ DsidIn (now s) at ⌝ }
     ensures { λ r. ⌜ DsidSized (now (s .entry)) at r ⌝ }
 {
     let size = dsid_size(content(s, at, 1)) as u32;
-    let rows = dsid_rows(size);
-    base_of(rows, 3) + (40 + size)
+    total_of(size)
+}
+
+// How many it has in the result, the update's being at `by`.
+pub fn revised_total(cell: &[u8], at: usize, update: &[u8], by: usize) -> u32
+    requires { ⌜ DsidIn (now cell) at × DsidIn (now update) by ⌝ }
+    ensures { λ r. ⌜ RevisedSized (now (cell .entry)) at (now (update .entry)) by r ⌝ }
+{
+    let f = content(cell, at, 1);
+    let g = content(update, by, 1);
+    let size = revised_size(f, g) as u32;
+    total_of(size)
 }
 
 // The same of the record of DSPM.
@@ -95,6 +117,16 @@ fn put_number(number: u32, out: &mut [u8], place: usize) -> usize
     put1(out, end, 30)
 }
 
+// What stands before a DSID of `size` bytes in its record.
+fn put_opening(size: u32, out: &mut [u8], place: usize) -> usize
+    requires { ⌜ (size ≤ 150000) × (place + length (opening size) ≤ length (now out)) ⌝ }
+    ensures { λ r. ⌜ Wrote (now (out .entry)) place (opening size) (now (out .exit)) r ⌝ }
+{
+    let rows = dsid_rows(size);
+    let a = put_head(out, place, rows, 3, 40 + size);
+    put_number(1, out, a)
+}
+
 // DSID, and its 1E.
 fn put_named(f: &[u8], out: &mut [u8], place: usize) -> usize
     requires { ⌜ Known (now f) × (place + (length (dsidBytes (dsidOf (now f))) + 1) ≤ length (now out)) ⌝ }
@@ -104,8 +136,17 @@ fn put_named(f: &[u8], out: &mut [u8], place: usize) -> usize
     put1(out, end, 30)
 }
 
+// DSID of the result, and its 1E.
+fn put_renamed(f: &[u8], g: &[u8], out: &mut [u8], place: usize) -> usize
+    requires { ⌜ Known (now f) × Known (now g) × (place + (length (dsidBytes (revised (dsidOf (now f)) (dsidOf (now g)))) + 1) ≤ length (now out)) ⌝ }
+    ensures { λ r. ⌜ Wrote (now (out .entry)) place (dsidBytes (revised (dsidOf (now (f .entry))) (dsidOf (now (g .entry)))) ++ (30 ∷ [])) (now (out .exit)) r ⌝ }
+{
+    let end = put_revised(f, g, out, place);
+    put1(out, end, 30)
+}
+
 // Where DSSI starts in the record at `at`.
-fn dssi_at(s: &[u8], at: usize) -> usize
+pub fn dssi_at(s: &[u8], at: usize) -> usize
     requires { ⌜ DsidIn (now s) at ⌝ }
     ensures { λ r. ⌜ (r ≡ fieldAt (now (s .entry)) at 2 .start) × (r + 35 ≤ length (now (s .entry))) ⌝ }
 {
@@ -123,25 +164,39 @@ fn put_counts(s: &[u8], at: usize, t: Tally, out: &mut [u8], place: usize) -> us
     put1(out, end, 30)
 }
 
-// The fields of the record of DSID with these counts.
-fn put_dsid_fields(s: &[u8], at: usize, t: Tally, out: &mut [u8], place: usize) -> usize
-    requires { ⌜ DsidIn (now s) at × (place + (40 + length (dsidIn (now s) at)) ≤ length (now out)) ⌝ }
-    ensures { λ r. ⌜ Wrote (now (out .entry)) place (bodyOf (dsidFields (dsidIn (now (s .entry)) at) (dssiIn (now (s .entry)) at t))) (now (out .exit)) r ⌝ }
-{
-    let a = put_number(1, out, place);
-    let b = put_named(content(s, at, 1), out, a);
-    put_counts(s, at, t, out, b)
-}
-
 // The record of DSID, which is at `at`, with these counts.
 pub fn put_dsid_record(s: &[u8], at: usize, t: Tally, out: &mut [u8], place: usize) -> usize
     requires { ⌜ DsidIn (now s) at × (place + sizeOf (dsidFields (dsidIn (now s) at) (dssiIn (now s) at t)) ≤ length (now out)) ⌝ }
     ensures { λ r. ⌜ Wrote (now (out .entry)) place (recordBytes (dsidFields (dsidIn (now (s .entry)) at) (dssiIn (now (s .entry)) at t))) (now (out .exit)) r ⌝ }
 {
-    let size = dsid_size(content(s, at, 1)) as u32;
-    let rows = dsid_rows(size);
-    let a = put_head(out, place, rows, 3, 40 + size);
-    put_dsid_fields(s, at, t, out, a)
+    let f = content(s, at, 1);
+    let size = dsid_size(f) as u32;
+    let a = put_opening(size, out, place);
+    let b = put_named(f, out, a);
+    put_counts(s, at, t, out, b)
+}
+
+// The record of DSID in the result, with these counts: the cell's is at `at`, the update's at `by`.
+pub fn put_revised_record(
+    cell: &[u8],
+    at: usize,
+    update: &[u8],
+    by: usize,
+    t: Tally,
+    out: &mut [u8],
+    place: usize,
+) -> usize
+    requires { ⌜ DsidIn (now cell) at
+        × DsidIn (now update) by
+        × (place + sizeOf (dsidFields (revisedIn (now cell) at (now update) by) (dssiIn (now cell) at t)) ≤ length (now out)) ⌝ }
+    ensures { λ r. ⌜ Wrote (now (out .entry)) place (recordBytes (dsidFields (revisedIn (now (cell .entry)) at (now (update .entry)) by) (dssiIn (now (cell .entry)) at t))) (now (out .exit)) r ⌝ }
+{
+    let f = content(cell, at, 1);
+    let g = content(update, by, 1);
+    let size = revised_size(f, g) as u32;
+    let a = put_opening(size, out, place);
+    let b = put_renamed(f, g, out, a);
+    put_counts(cell, at, t, out, b)
 }
 
 // The fields of the record of DSPM.

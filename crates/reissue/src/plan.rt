@@ -16,7 +16,7 @@ pub struct Plan {
 }
 
 // Whether n records, the longest of `most` bytes, `total` bytes in all, keep the limits.
-fn within_limits(n: usize, most: u32, total: usize) -> bool
+pub fn within_limits(n: usize, most: u32, total: usize) -> bool
     ensures { λ r. ⌜ r ≡ withinLimits n most total ⌝ }
 {
     if 65536 < n {

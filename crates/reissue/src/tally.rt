@@ -17,7 +17,7 @@ use names::counts::add_vector;
 use words::get;
 
 // The class of a vector, by its place in held order.
-fn class_of(rank: u64) -> u32
+pub fn class_of(rank: u64) -> u32
     ensures { λ r. ⌜ r ≡ classOf rank ⌝ }
 {
     if rank == 0 {

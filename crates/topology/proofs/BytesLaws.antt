@@ -53,6 +53,21 @@ join-bytes : (a b : List ℕ) → Bytes a → Bytes b → Bytes (a ++ b)
 join-bytes [] b p q = q
 join-bytes (x ∷ a) b p q = cons-bytes x (a ++ b) (first-byte x a p) (join-bytes a b (rest-bytes x a p) q)
 
+-- ---- parts of a list of byte strings
+pub all-take : (n : ℕ) (es : List (List ℕ)) → AllBytes es → AllBytes (take n es)
+all-take zero es all = none
+all-take (suc n) [] all = none
+all-take (suc n) (e ∷ es) (more b rest) = more b (all-take n es rest)
+
+pub all-drop : (n : ℕ) (es : List (List ℕ)) → AllBytes es → AllBytes (drop n es)
+all-drop zero es all = all
+all-drop (suc n) [] all = all
+all-drop (suc n) (e ∷ es) (more b rest) = all-drop n es rest
+
+pub all-join : (a b : List (List ℕ)) → AllBytes a → AllBytes b → AllBytes (a ++ b)
+all-join [] b none q = q
+all-join (e ∷ a) b (more p rest) q = more p (all-join a b rest q)
+
 -- ---- the entries of a list
 some-bytes : (z : Bool) {e : List ℕ} {es : List (List ℕ)} → Bytes e → AllBytes es → AllBytes (cond z [] (e ∷ es))
 some-bytes true b rest = none

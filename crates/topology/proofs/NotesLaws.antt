@@ -1,15 +1,16 @@
 -- Laws of the notes as they are written into the work area. Assumes nothing.
-use Prim.Native.Nat.{ℕ, zero, suc, _+_, _-_, _*_, _^_, _≤_, _<_}
+use Prim.Native.Nat.{ℕ, suc, _+_, _-_, _*_, _^_, _≤_, _<_}
 use mathlib.Core.List.{List, [], _∷_, _++_}
 use mathlib.Core.Path.{_≡_, refl, sym, ap, _∙_}
-use native.Mathlib.Nat.{add-zero, zero-add}
+use native.Mathlib.Nat.{add-zero, zero-add, sub-zero}
+use native.Mathlib.Numerals.{add-one}
 use native.Mathlib.Omega.{arith}
 use lib.ListN.{length, getD, take, drop}
 use lib.Seq.{take-append-seam, drop-append-seam}
 use Rattle.words.specs.Words.{wordAt, wordsIn, putAt}
 use Rattle.words.specs.Order.{sorted, Sorted, Sorts}
 use Rattle.words.specs.Find.{firstFrom}
-use Rattle.words.proofs.WordsLaws.{put-length, words-length, words-at, words-split, words-grow, words-put-behind}
+use Rattle.words.proofs.WordsLaws.{words-length, words-at, word-front, words-split, words-grow}
 use Rattle.words.proofs.SortLaws.{sorts-before, sorts-in-order}
 use borrow.Author.Tests.{ne-eqb}
 use Rattle.octets.specs.Number.{byteAt}
@@ -18,120 +19,140 @@ use Rattle.iso8211.specs.declared.field.Head.{Head}
 use Rattle.table.specs.Table.{VRPT}
 use Rattle.items.specs.Lists.{entriesAt, Listed}
 use Rattle.items.specs.Identity.{foidAt, placeOf, Featured}
+use Rattle.items.specs.Item.{itemAt}
 use Rattle.items.proofs.KindLaws.{vrpt-list}
-use Rattle.names.specs.Held.{Stands, AllStand, Noted}
-use Rattle.names.proofs.HeldLaws.{stand-feature}
+use Rattle.names.specs.Held.{itemsOf, Stands, AllStand, Noted}
+use Rattle.names.proofs.HeldLaws.{stand-rank, last-feature}
 use Rattle.ring.specs.Ring.{endsWith}
-use Rattle.topology.specs.Notes.{featureWord, rankIn, noteOf, notesOf, Roomy, NotesPut, Prepared}
+use Rattle.topology.specs.Notes.{featureWord, rankIn, noteFor, notesFor, Ranked, Roomy, Beside, NotesPut, Prepared}
+use Rattle.topology.proofs.BesideLaws.{beside-same, beside-put, beside-sorts, beside-words}
 
--- ---- notes of lists of words
-pub notes-append : (s a b : List ℕ) → notesOf s (a ++ b) ≡ notesOf s a ++ notesOf s b
-unfolding notesOf
-notes-append s [] b = refl
-notes-append s (w ∷ a) b = ap (λ (l : List ℕ). noteOf s w ∷ l) (notes-append s a b)
+-- ---- the note of one item
+module _ {s : List ℕ} {at rank : ℕ} (ranked : Ranked s at rank) where
+  pub note-foid : (r : ℕ) → rank ≡ 3 → r ≡ foidAt s at → r ≡ noteFor (itemAt s at)
+  unfolding noteFor
+  note-foid r e told = told ∙ rw (← ranked .is, e)
 
-pub notes-take : (k : ℕ) (s ws : List ℕ) → take k (notesOf s ws) ≡ notesOf s (take k ws)
-unfolding notesOf
-notes-take zero s ws = refl
-notes-take (suc k) s [] = refl
-notes-take (suc k) s (w ∷ ws) = ap (λ (l : List ℕ). noteOf s w ∷ l) (notes-take k s ws)
+  pub note-ends : (r : ℕ) → rank ≡ 2 → r ≡ endsWith (entriesAt s at VRPT) → r ≡ noteFor (itemAt s at)
+  unfolding noteFor
+  note-ends r e told = told ∙ rw (← ranked .is, e)
 
-pub notes-drop : (k : ℕ) (s ws : List ℕ) → drop k (notesOf s ws) ≡ notesOf s (drop k ws)
-unfolding notesOf
-notes-drop zero s ws = refl
-notes-drop (suc k) s [] = refl
-notes-drop (suc k) s (w ∷ ws) = notes-drop k s ws
+  pub note-none : (rank ≡ 3 → ⊥) → (rank ≡ 2 → ⊥) → 0 ≡ noteFor (itemAt s at)
+  unfolding noteFor
+  note-none feature edge = rw (← ranked .is, ne-eqb rank 3 feature, ne-eqb rank 2 edge)
 
--- ---- the note of one word
-module _ (s : List ℕ) (w : ℕ) where
-  pub note-foid : (r : ℕ) → rankIn w ≡ 3 → r ≡ foidAt s (placeOf w) → r ≡ noteOf s w
-  unfolding noteOf
-  note-foid r e is = is ∙ rw e
+  pub ranked-listed : (h : Head) → HeadOf s at h → Listed s at h VRPT
+  ranked-listed h head = record { laid = ranked .laid; head = head; list = vrpt-list }
 
-  pub note-ends : (r : ℕ) → rankIn w ≡ 2 → r ≡ endsWith (entriesAt s (placeOf w) VRPT) → r ≡ noteOf s w
-  unfolding noteOf
-  note-ends r e is = is ∙ rw e
+  pub ranked-featured : rank ≡ 3 → Featured s at
+  ranked-featured e = ranked .known .feature (last-feature _ (sym (ranked .is) ∙ e) (ranked .known .class))
 
-  pub note-none : (rankIn w ≡ 3 → ⊥) → (rankIn w ≡ 2 → ⊥) → 0 ≡ noteOf s w
-  unfolding noteOf
-  note-none feature edge = rw (ne-eqb (rankIn w) 3 feature, ne-eqb (rankIn w) 2 edge)
+pub stands-ranked : {s : List ℕ} {w : ℕ} → Stands s w → ((i : ℕ) → byteAt s i < 256) → Ranked s (placeOf w) (rankIn w)
+stands-ranked stands bytes = record { laid = stands .laid; known = stands .known; is = stand-rank stands bytes }
 
-  pub stands-listed : (h : Head) → Stands s w → HeadOf s (placeOf w) h → Listed s (placeOf w) h VRPT
-  stands-listed h stands head = record { laid = stands .laid; head = head; list = vrpt-list }
+-- ---- while they are written: of all notes those of the first i of m words stand in `next`, and these are left
+pub record Noting (notes work : List ℕ) (m i : ℕ) (rest next : List ℕ) : Type 0 where
+  pub is : notes ≡ wordsIn next m i ++ rest
+  pub beside : Beside work m next
 
-  pub stands-featured : Stands s w → ((i : ℕ) → byteAt s i < 256) → rankIn w ≡ 3 → Featured s (placeOf w)
-  stands-featured stands bytes e = stands .known .feature (stand-feature stands bytes (omega arith))
+pub noting-start : (notes work : List ℕ) (m : ℕ) → Noting notes work m 0 notes work
+unfolding wordsIn
+noting-start notes work m = record { is = refl; beside = beside-same work m }
 
--- ---- while they are written: those of the first i of m words stand in `next`
-pub record Noting (s work : List ℕ) (m i : ℕ) (next : List ℕ) : Type 0 where
-  pub words : wordsIn next 0 m ≡ wordsIn work 0 m
-  pub notes : wordsIn next m i ≡ notesOf s (wordsIn work 0 i)
-  pub size : length next ≡ length work
-
-pub noting-start : (s work : List ℕ) (m : ℕ) → Noting s work m 0 work
-unfolding wordsIn notesOf
-noting-start s work m = record { words = refl; notes = refl; size = refl }
-
-module _ {s a : List ℕ} {m i : ℕ} {b : List ℕ} (so : Noting s a m i b) (room : 16 * m ≤ length a) (more : i < m) (w : ℕ) (is : w ≡ wordAt b i) where
-  word-same : w ≡ wordAt a i
-  word-same =
-      let e : wordAt b (0 + i) ≡ wordAt a (0 + i) = sym (words-at b 0 m i more) ∙ ap (λ (l : List ℕ). getD l i 0) (so .words) ∙ words-at a 0 m i more in
-      is ∙ rw zero-add at e
-
-  pub noting-stands : AllStand s (wordsIn a 0 m) → Stands s w
-  noting-stands all =
-      let e : getD (wordsIn a 0 m) i 0 ≡ w = words-at a 0 m i more ∙ rw (zero-add i) (sym word-same) in
-      rw e at (all .each i (rw (words-length a 0 m) more))
-
+module _ {notes a : List ℕ} {m i : ℕ} {rest b : List ℕ} (so : Noting notes a m i rest b) (room : 16 * m ≤ length a) (more : i < m) where
   pub noting-room : 8 * (m + i) + 8 ≤ length b
-  noting-room = let size = so .size in omega arith
+  noting-room = let size = so .beside .size in omega arith
 
-  pub noting-on : (note : ℕ) (c : List ℕ) → note ≡ noteOf s w → note < 2 ^ 64 → c ≡ putAt b (m + i) note → Noting s a m (i + 1) c
-  unfolding wordsIn notesOf
-  noting-on note c told small put =
-      let grown : notesOf s (wordsIn a 0 (i + 1)) ≡ notesOf s (wordsIn a 0 i) ++ (note ∷ []) =
-      ap (notesOf s) (words-split a 0 i 1) ∙ notes-append s (wordsIn a 0 i) (wordsIn a (0 + i) 1)
-      ∙ rw (zero-add i, ← word-same, ← told) in
-      record {
-        words = rw put (words-put-behind b (m + i) 0 m note noting-room (omega arith) ∙ so .words);
-        notes = rw put (words-grow b m i note noting-room small ∙ ap (λ (l : List ℕ). l ++ (note ∷ [])) (so .notes) ∙ sym grown);
-        size = rw put (put-length b (m + i) note ∙ so .size);
-      }
+  pub noting-on : (note : ℕ) (left c : List ℕ) → rest ≡ note ∷ left → note < 2 ^ 64 → c ≡ putAt b (m + i) note → Noting notes a m (i + 1) left c
+  noting-on note left c next small put = record {
+    is = so .is ∙ rw (next, put, words-grow b m i note noting-room small) (sym (append-one (wordsIn b m i) note left));
+    beside = beside-put i note c (so .beside) more noting-room put;
+  }
+    where
+      append-one : (xs : List ℕ) (x : ℕ) (ys : List ℕ) → (xs ++ (x ∷ [])) ++ ys ≡ xs ++ (x ∷ ys)
+      append-one [] x ys = refl
+      append-one (y ∷ xs) x ys = ap (λ (l : List ℕ). y ∷ l) (append-one xs x ys)
 
-pub noting-done : {s a : List ℕ} {m i : ℕ} {b : List ℕ} → Noting s a m i b → i ≤ m → m ≤ i → NotesPut s a m b
-noting-done {s} {a} {m} {i} {b} so low high =
+pub noting-done : {notes a : List ℕ} {m i : ℕ} {rest b : List ℕ} → Noting notes a m i rest b → rest ≡ [] → i ≤ m → m ≤ i → NotesPut notes a m b
+noting-done {notes} {a} {m} {i} {rest} {b} so none low high =
     let e : i ≡ m = omega arith in
-    record { words = so .words; notes = rw e at (so .notes); size = so .size }
+    record { is = sym (rw (none, e) at (so .is) ∙ append-none (wordsIn b m m)); beside = so .beside }
+  where
+    append-none : (xs : List ℕ) → xs ++ [] ≡ xs
+    append-none [] = refl
+    append-none (x ∷ xs) = ap (λ (l : List ℕ). x ∷ l) (append-none xs)
 
-pub put-order : {s a : List ℕ} {m : ℕ} {b : List ℕ} → NotesPut s a m b → Sorted (wordsIn a 0 m) → Sorted (wordsIn b 0 m)
-put-order put order = rw (put .words) order
+-- ---- the same of the items of a file
+abbrev notesFrom : List ℕ → List ℕ → ℕ → ℕ → List ℕ
+notesFrom s work m i = notesFor (itemsOf s (wordsIn work i (m - i)))
+
+pub record Filed (s work : List ℕ) (m i : ℕ) (next : List ℕ) : Type 0 where
+  pub so : Noting (notesFor (itemsOf s (wordsIn work 0 m))) work m i (notesFrom s work m i) next
+
+pub filed-start : (s work : List ℕ) (m : ℕ) → Filed s work m 0 work
+filed-start s work m = record { so = rw (sub-zero m) (noting-start (notesFor (itemsOf s (wordsIn work 0 m))) work m) }
+
+module _ {s a : List ℕ} {m i : ℕ} {b : List ℕ} (filed : Filed s a m i b) (roomy : Roomy s a m) (more : i < m) where
+  pub filed-room : 8 * (m + i) + 8 ≤ length b
+  filed-room = noting-room (filed .so) (roomy .room) more
+
+  module _ (w : ℕ) (is : w ≡ wordAt b i) where
+    word-same : w ≡ wordAt a i
+    word-same = is ∙ word-front b a m i (filed .so .beside .front) more
+
+    pub filed-stands : Stands s w
+    filed-stands =
+        let e : getD (wordsIn a 0 m) i 0 ≡ w = words-at a 0 m i more ∙ rw (zero-add i) (sym word-same) in
+        rw e at (roomy .stand .each i (rw (words-length a 0 m) more))
+
+    pub filed-on : (note : ℕ) (c : List ℕ) → note ≡ noteFor (itemAt s (placeOf w)) → note < 2 ^ 64 → c ≡ putAt b (m + i) note → Filed s a m (i + 1) c
+    unfolding wordsIn itemsOf notesFor
+    filed-on note c told small put =
+        let n : m - i ≡ suc (m - (i + 1)) = omega arith in
+        let left : notesFrom s a m i ≡ note ∷ notesFrom s a m (i + 1) = rw (n, ← word-same, ← told, add-one i) in
+        record { so = noting-on (filed .so) (roomy .room) more note (notesFrom s a m (i + 1)) c left small put }
+
+pub filed-done : {s a : List ℕ} {m i : ℕ} {b : List ℕ} → Filed s a m i b → i ≤ m → m ≤ i → NotesPut (notesFor (itemsOf s (wordsIn a 0 m))) a m b
+unfolding wordsIn itemsOf notesFor
+filed-done {s} {a} {m} {i} {b} filed low high = let z : m - i ≡ 0 = omega arith in noting-done (filed .so) (rw z) low high
 
 -- ---- the notes of the vectors stay, those of the features come into order
-module _ {s a : List ℕ} {m : ℕ} {b c : List ℕ} {v : ℕ} (roomy : Roomy s a m) (order : Sorted (wordsIn a 0 m)) (put : NotesPut s a m b)
-    (is : v ≡ 0 + firstFrom featureWord (wordsIn b 0 m)) (few : v ≤ 0 + m) (so : Sorts b (m + v) (m - v) c) where
-  halves : wordsIn b m v ++ wordsIn b (m + v) (m - v) ≡ notesOf s (wordsIn a 0 m)
-  halves = let sum : v + (m - v) ≡ m = omega arith in sym (words-split b m v (m - v)) ∙ rw sum (put .notes)
+module _ {b c : List ℕ} (m v : ℕ) (room : 16 * m ≤ length b) (order : Sorted (wordsIn b 0 m)) (is : v ≡ 0 + firstFrom featureWord (wordsIn b 0 m)) (few : v ≤ 0 + m)
+    (so : Sorts b (m + v) (m - v) c) where
+  halves : wordsIn b m v ++ wordsIn b (m + v) (m - v) ≡ wordsIn b m m
+  halves = let sum : v + (m - v) ≡ m = omega arith in sym (words-split b m v (m - v)) ∙ rw sum
 
-  front : wordsIn b m v ≡ notesOf s (take v (wordsIn a 0 m))
-  front =
-      let long = words-length b m v in
-      (rw long at (sym (take-append-seam (wordsIn b m v) (wordsIn b (m + v) (m - v))))) ∙ ap (take v) halves ∙ notes-take v s (wordsIn a 0 m)
+  front : wordsIn b m v ≡ take v (wordsIn b m m)
+  front = let long = words-length b m v in (rw long at (sym (take-append-seam (wordsIn b m v) (wordsIn b (m + v) (m - v))))) ∙ ap (take v) halves
 
-  behind : wordsIn b (m + v) (m - v) ≡ notesOf s (drop v (wordsIn a 0 m))
-  behind =
-      let long = words-length b m v in
-      (rw long at (sym (drop-append-seam (wordsIn b m v) (wordsIn b (m + v) (m - v))))) ∙ ap (drop v) halves ∙ notes-drop v s (wordsIn a 0 m)
+  behind : wordsIn b (m + v) (m - v) ≡ drop v (wordsIn b m m)
+  behind = let long = words-length b m v in (rw long at (sym (drop-append-seam (wordsIn b m v) (wordsIn b (m + v) (m - v))))) ∙ ap (drop v) halves
 
-  pub prepared : Prepared s (wordsIn a 0 m) m c v
-  prepared =
-      let kept : wordsIn c 0 m ≡ wordsIn a 0 m = sorts-before so 0 m (omega arith) ∙ put .words in
-      let room = roomy .room in
-      let size = put .size in
+  pub notes-sorted : Prepared (wordsIn b m m) (wordsIn b 0 m) m c v
+  notes-sorted =
+      let kept : wordsIn c 0 m ≡ wordsIn b 0 m = sorts-before so 0 m (omega arith) in
       let long = so .size in
       record {
         noted = record { room = omega arith; few = omega arith; order = rw kept order; foids = sorts-in-order so };
         words = kept;
-        first = is ∙ zero-add (firstFrom featureWord (wordsIn b 0 m)) ∙ ap (firstFrom featureWord) (put .words);
+        first = is ∙ zero-add (firstFrom featureWord (wordsIn b 0 m));
         ends = sorts-before so m v (omega arith) ∙ front;
         foids = so .words ∙ ap sorted behind;
       }
+
+  pub notes-beside : Beside b m c
+  notes-beside = beside-sorts m v (m - v) so (omega arith)
+
+-- ---- written, then in order
+module _ {notes a b : List ℕ} {m : ℕ} (put : NotesPut notes a m b) where
+  pub put-words : wordsIn b 0 m ≡ wordsIn a 0 m
+  put-words = beside-words (put .beside) 0 m (omega arith)
+
+  pub put-order : Sorted (wordsIn a 0 m) → Sorted (wordsIn b 0 m)
+  put-order order = rw put-words order
+
+  pub put-room : 16 * m ≤ length a → 16 * m ≤ length b
+  put-room room = let size = put .beside .size in omega arith
+
+  pub put-prepared : {c : List ℕ} {v : ℕ} → Prepared (wordsIn b m m) (wordsIn b 0 m) m c v → Prepared notes (wordsIn a 0 m) m c v
+  put-prepared so = rw (put .is, put-words) at so

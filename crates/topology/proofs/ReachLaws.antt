@@ -14,19 +14,18 @@ use Rattle.words.specs.Words.{wordsIn}
 use Rattle.words.specs.Order.{Sorted, sorted, isIn}
 use Rattle.words.specs.Find.{firstFrom}
 use Rattle.words.proofs.OrderLaws.{sorted-tail, sorted-member}
-use Rattle.items.specs.Lists.{entriesAt}
-use Rattle.items.specs.Identity.{rcnmAt, foidAt, rankOf, placeOf}
-use Rattle.items.specs.Item.{Item, itemAt}
+use Rattle.items.specs.Identity.{rcnmAt, rankOf, nameFrom, nameOf, placeOf}
+use Rattle.items.specs.Item.{Item, itemAt, itemName}
 use Rattle.items.proofs.IdentityLaws.{rank-few, rank-edge}
-use Rattle.names.specs.Lookup.{indexOf}
-use Rattle.names.specs.Held.{itemsOf, placeIn, objectIn, Stands, AllStand}
+use Rattle.names.specs.Lookup.{indexFrom, indexOf}
+use Rattle.names.specs.Held.{itemsOf, placeFrom, placeIn, objectIn, Stands, AllStand}
 use Rattle.names.specs.declared.lookup.Found.{Found}
 use Rattle.names.specs.declared.lookup.Found.the-variants.{At, Nothing}
-use Rattle.names.proofs.HeldLaws.{stand-first, stand-rest, stand-rank, stand-vector, stand-feature, place-index}
+use Rattle.names.proofs.HeldLaws.{stand-first, stand-rest, stand-rank, stand-name, last-feature}
 use Rattle.pointer.specs.Pointer.{heldFoid}
 use Rattle.ring.specs.Ring.{nodeWith, nodeOf, nodesOf, found, nodeIn, endsWith, endIn, nodeAt}
 use Rattle.topology.specs.Topology.{itemCode, codeAmong}
-use Rattle.topology.specs.Notes.{featureWord, rankIn, noteOf, notesOf, notedCode, Prepared}
+use Rattle.topology.specs.Notes.{featureWord, rankIn, noteFor, notesFor, notedCode, Prepared, Worded, AllWorded, worded-none, worded-more}
 use Rattle.topology.proofs.BytesLaws.{Bytes, entries-bytes, node-few}
 
 -- ---- how many words stand below those of the features
@@ -81,107 +80,134 @@ edge-only : (rcnm : ℕ) → rankOf rcnm ≡ 2 → rcnm ≡ 130
 unfolding rankOf
 edge-only rcnm e = eqb-true rcnm 130 (edge-rank (eqb rcnm 110) (eqb rcnm 120) (eqb rcnm 130) e)
 
-module _ (s : List ℕ) (bytes : Bytes s) where
-  feature-is : {w : ℕ} → Stands s w → featureWord ≤ w → rcnmAt s (placeOf w) ≡ 100
-  feature-is stands h = stand-feature stands (bytes .low) h
+-- ---- one item and its word
+module _ {i : Item} {w : ℕ} (worded : Worded i w) where
+  feature-rank : featureWord ≤ w → rankOf (i .rcnm) ≡ 3
+  feature-rank h = omega (arith, worded .rank, rank-few (i .rcnm))
 
-  -- ---- FOIDs
-  feature-note : {w : ℕ} → Stands s w → featureWord ≤ w → noteOf s w ≡ foidAt s (placeOf w)
-  unfolding noteOf
-  feature-note {w} stands h =
-      let rank = stand-rank stands (bytes .low) in
-      let few = rank-few (rcnmAt s (placeOf w)) in
-      let three : rankIn w ≡ 3 = omega arith in
-      rw (eq-eqb (rankIn w) 3 three)
+  feature-is : featureWord ≤ w → i .rcnm ≡ 100
+  feature-is h = worded .class (feature-rank h)
 
-  objects-features : (ws : List ℕ) (foid : ℕ) → AllStand s ws → Features ws → objectIn (itemsOf s ws) foid ≡ isIn foid (notesOf s ws)
-  unfolding objectIn itemsOf isIn notesOf
-  objects-features [] foid all high = refl
-  objects-features (w ∷ ws) foid all high =
-      let up = high .high 0 (omega arith) in
-      rw (
-        eq-eqb (rcnmAt s (placeOf w)) 100 (feature-is (stand-first all) up),
-        feature-note (stand-first all) up,
-        objects-features ws foid (stand-rest all) (features-rest high),
-      )
+  feature-note : featureWord ≤ w → noteFor i ≡ i .foid
+  unfolding noteFor
+  feature-note h = rw (feature-rank h)
 
-  objects-word : (ws : List ℕ) (foid : ℕ) → AllStand s ws → Sorted ws → objectIn (itemsOf s ws) foid ≡ isIn foid (notesOf s (drop (firstFrom featureWord ws) ws))
-  unfolding objectIn itemsOf isIn notesOf
-  objects-word [] foid all order = rw first-none
-  objects-word (w ∷ ws) foid all order =
-      let rest = objects-word ws foid (stand-rest all) (sorted-tail order) in
-      ⊎-elim (λ (h : featureWord ≤ w). rw (first-feature w ws h) (objects-features (w ∷ ws) foid all (features-all order h)))
-      (λ (h : w < featureWord). rw (first-below w ws h, stand-vector (stand-first all) (bytes .low) h) rest)
-      (le-or-lt featureWord w)
+  vector-rank : w < featureWord → rankOf (i .rcnm) ≡ 3 → ⊥
+  vector-rank low e = omega (arith, worded .rank)
 
-  -- ---- the ends of edges
-  node-edge : (begin : Bool) {w : ℕ} → Stands s w → rankIn w ≡ 2 → nodeOf (cond begin 1 2) (itemAt s (placeOf w)) ≡ half begin (noteOf s w)
-  unfolding nodeOf noteOf half endsWith
-  node-edge begin {w} stands two =
-      let edge = edge-only (rcnmAt s (placeOf w)) (sym (stand-rank stands (bytes .low)) ∙ two) in
-      rw (two, edge) (node-pick begin (entriesAt s (placeOf w) VRPT) ∙ halves-apart begin (nodeWith 1 (entriesAt s (placeOf w) VRPT)) (nodeWith 2 (entriesAt s (placeOf w) VRPT))
-      (node-few 2 (entriesAt s (placeOf w) VRPT) (entries-bytes s (placeOf w) VRPT bytes)))
+  vector-is : w < featureWord → eqb (i .rcnm) 100 ≡ false
+  unfolding rankOf
+  vector-is low = ne-eqb (i .rcnm) 100 (λ (e : i .rcnm ≡ 100). vector-rank low (rw e))
 
-  node-other : (begin : Bool) {w : ℕ} → Stands s w → w < featureWord → (rankIn w ≡ 2 → ⊥) → nodeOf (cond begin 1 2) (itemAt s (placeOf w)) ≡ half begin (noteOf s w)
-  unfolding nodeOf noteOf
-  node-other begin {w} stands low ne =
-      let rank = stand-rank stands (bytes .low) in
-      let no : eqb (rcnmAt s (placeOf w)) 130 ≡ false = ne-eqb _ _ (λ (e : rcnmAt s (placeOf w) ≡ 130). ne (rank ∙ sym (rank-edge (rcnmAt s (placeOf w)) e))) in
-      rw (no, ne-eqb (rankIn w) 3 (λ (e : rankIn w ≡ 3). omega arith), ne-eqb (rankIn w) 2 ne) (half-none begin)
+  node-edge : (begin : Bool) → rankOf (i .rcnm) ≡ 2 → nodeOf (cond begin 1 2) i ≡ half begin (noteFor i)
+  unfolding nodeOf noteFor half endsWith
+  node-edge begin two =
+      rw (two, edge-only (i .rcnm) two)
+      (node-pick begin (i .entries VRPT) ∙ halves-apart begin (nodeWith 1 (i .entries VRPT)) (nodeWith 2 (i .entries VRPT)) (worded .few))
 
-  node-vector : (begin : Bool) {w : ℕ} → Stands s w → w < featureWord → nodeOf (cond begin 1 2) (itemAt s (placeOf w)) ≡ half begin (noteOf s w)
-  node-vector begin {w} stands low =
-      ⊎-elim (λ (e : rankIn w ≡ 2). node-edge begin stands e) (λ (ne : rankIn w ≡ 2 → ⊥). node-other begin stands low ne) (eq-or-ne (rankIn w) 2)
+  node-other : (begin : Bool) → w < featureWord → (rankOf (i .rcnm) ≡ 2 → ⊥) → nodeOf (cond begin 1 2) i ≡ half begin (noteFor i)
+  unfolding nodeOf noteFor
+  node-other begin low ne =
+      let no : eqb (i .rcnm) 130 ≡ false = ne-eqb _ _ (λ (e : i .rcnm ≡ 130). ne (sym (rank-edge (i .rcnm) e))) in
+      rw (no, ne-eqb (rankOf (i .rcnm)) 3 (vector-rank low), ne-eqb (rankOf (i .rcnm)) 2 ne) (half-none begin)
 
-  node-feature : (topi : ℕ) {w : ℕ} → Stands s w → featureWord ≤ w → nodeOf topi (itemAt s (placeOf w)) ≡ 0
+  node-vector : (begin : Bool) → w < featureWord → nodeOf (cond begin 1 2) i ≡ half begin (noteFor i)
+  node-vector begin low =
+      ⊎-elim (λ (e : rankOf (i .rcnm) ≡ 2). node-edge begin e) (λ (ne : rankOf (i .rcnm) ≡ 2 → ⊥). node-other begin low ne) (eq-or-ne (rankOf (i .rcnm)) 2)
+
+  node-feature : (topi : ℕ) → featureWord ≤ w → nodeOf topi i ≡ 0
   unfolding nodeOf
-  node-feature topi {w} stands h = rw (feature-is stands h)
+  node-feature topi h = rw (feature-is h)
 
-  nodes-features : (topi : ℕ) (ws : List ℕ) (k : ℕ) → AllStand s ws → Features ws → getD (nodesOf topi (itemsOf s ws)) k 0 ≡ 0
-  unfolding nodesOf itemsOf
-  nodes-features topi [] k all high = refl
-  nodes-features topi (w ∷ ws) zero all high = node-feature topi (stand-first all) (high .high 0 (omega arith))
-  nodes-features topi (w ∷ ws) (suc k) all high = nodes-features topi ws k (stand-rest all) (features-rest high)
+-- ---- names
+place-from : (k name : ℕ) {is : List Item} {ws : List ℕ} → AllWorded is ws → placeFrom k is name ≡ indexFrom k ws name
+unfolding placeFrom indexFrom
+place-from k name worded-none = refl
+place-from k name (worded-more one all) = rw (← one .name, place-from (k + 1) name all)
 
-  nodes-word : (begin : Bool) (ws : List ℕ) (k : ℕ) → AllStand s ws → Sorted ws
-      → getD (nodesOf (cond begin 1 2) (itemsOf s ws)) k 0 ≡ half begin (getD (notesOf s (take (firstFrom featureWord ws) ws)) k 0)
-  unfolding nodesOf itemsOf notesOf
-  nodes-word begin [] k all order = rw first-none (half-none begin)
-  nodes-word begin (w ∷ ws) zero all order =
-      ⊎-elim (λ (h : featureWord ≤ w). rw (first-feature w ws h) (node-feature (cond begin 1 2) (stand-first all) h ∙ half-none begin))
-      (λ (h : w < featureWord). rw (first-below w ws h) (node-vector begin (stand-first all) h)) (le-or-lt featureWord w)
-  nodes-word begin (w ∷ ws) (suc k) all order =
-      let rest = nodes-word begin ws k (stand-rest all) (sorted-tail order) in
-      ⊎-elim (λ (h : featureWord ≤ w). rw (first-feature w ws h)
-      (nodes-features (cond begin 1 2) (w ∷ ws) (suc k) all (features-all order h) ∙ half-none begin))
-      (λ (h : w < featureWord). rw (first-below w ws h) rest) (le-or-lt featureWord w)
+-- ---- FOIDs
+objects-features : (foid : ℕ) {is : List Item} {ws : List ℕ} → AllWorded is ws → Features ws → objectIn is foid ≡ isIn foid (notesFor is)
+unfolding objectIn isIn notesFor
+objects-features foid worded-none high = refl
+objects-features foid (worded-more {i = i} one all) high =
+    let up = high .high 0 (omega arith) in
+    rw (eq-eqb (i .rcnm) 100 (feature-is one up), feature-note one up, objects-features foid all (features-rest high))
 
-  nodes-found : (begin : Bool) (ws : List ℕ) (x : Found) → AllStand s ws → Sorted ws
-      → found (nodesOf (cond begin 1 2) (itemsOf s ws)) x ≡ half begin (found (notesOf s (take (firstFrom featureWord ws) ws)) x)
-  unfolding found
-  nodes-found begin ws (At k) all order = nodes-word begin ws k all order
-  nodes-found begin ws Nothing all order = half-none begin
+objects-word : (foid : ℕ) {is : List Item} {ws : List ℕ} → AllWorded is ws → Sorted ws → objectIn is foid ≡ isIn foid (drop (firstFrom featureWord ws) (notesFor is))
+unfolding objectIn isIn notesFor
+objects-word foid worded-none order = rw first-none
+objects-word foid (worded-more {i = i} {is = is} {w = w} {ws = ws} one all) order =
+    let rest = objects-word foid all (sorted-tail order) in
+    ⊎-elim (λ (h : featureWord ≤ w). rw (first-feature w ws h) (objects-features foid (worded-more one all) (features-all order h)))
+    (λ (h : w < featureWord). rw (first-below w ws h, vector-is one h) rest)
+    (le-or-lt featureWord w)
 
-  -- ---- the same of a work area that is prepared
-  module _ {ws : List ℕ} {m : ℕ} {work : List ℕ} {v : ℕ} (all : AllStand s ws) (order : Sorted ws) (so : Prepared s ws m work v) where
-    places : placeIn (itemsOf s ws) ≡ indexOf (wordsIn work 0 m)
-    places = place-index s ws all ∙ ap indexOf (sym (so .words))
+-- ---- the ends of edges
+nodes-features : (topi k : ℕ) {is : List Item} {ws : List ℕ} → AllWorded is ws → Features ws → getD (nodesOf topi is) k 0 ≡ 0
+unfolding nodesOf
+nodes-features topi k worded-none high = refl
+nodes-features topi zero (worded-more one all) high = node-feature one topi (high .high 0 (omega arith))
+nodes-features topi (suc k) (worded-more one all) high = nodes-features topi k all (features-rest high)
 
-    objects : objectIn (itemsOf s ws) ≡ heldFoid (wordsIn work (m + v) (m - v))
-    unfolding heldFoid
-    objects =
-        fun-ext (λ (foid : ℕ).
-        objects-word ws foid all order
-        ∙ rw (← so .first) (sym (sorted-member foid (notesOf s (drop v ws))))
-        ∙ ap (isIn foid) (sym (so .foids)))
+nodes-word : (begin : Bool) (k : ℕ) {is : List Item} {ws : List ℕ} → AllWorded is ws → Sorted ws
+    → getD (nodesOf (cond begin 1 2) is) k 0 ≡ half begin (getD (take (firstFrom featureWord ws) (notesFor is)) k 0)
+unfolding nodesOf notesFor
+nodes-word begin k worded-none order = rw first-none (half-none begin)
+nodes-word begin zero (worded-more {w = w} {ws = ws} one all) order =
+    ⊎-elim (λ (h : featureWord ≤ w). rw (first-feature w ws h) (node-feature one (cond begin 1 2) h ∙ half-none begin))
+    (λ (h : w < featureWord). rw (first-below w ws h) (node-vector one begin h)) (le-or-lt featureWord w)
+nodes-word begin (suc k) (worded-more {w = w} {ws = ws} one all) order =
+    let rest = nodes-word begin k all (sorted-tail order) in
+    ⊎-elim (λ (h : featureWord ≤ w). rw (first-feature w ws h)
+    (nodes-features (cond begin 1 2) (suc k) (worded-more one all) (features-all order h) ∙ half-none begin))
+    (λ (h : w < featureWord). rw (first-below w ws h) rest) (le-or-lt featureWord w)
 
-    nodes : nodeIn (itemsOf s ws) ≡ nodeAt (wordsIn work 0 m) (wordsIn work m v)
-    unfolding nodeIn nodeAt endIn half
-    nodes =
-        fun-ext (λ (topi : ℕ). fun-ext (λ (name : ℕ).
-        rw (places, so .ends, so .first) (nodes-found (eqb topi 1) ws (indexOf (wordsIn work 0 m) name) all order)))
+nodes-found : (begin : Bool) (x : Found) {is : List Item} {ws : List ℕ} → AllWorded is ws → Sorted ws
+    → found (nodesOf (cond begin 1 2) is) x ≡ half begin (found (take (firstFrom featureWord ws) (notesFor is)) x)
+unfolding found
+nodes-found begin (At k) all order = nodes-word begin k all order
+nodes-found begin Nothing all order = half-none begin
 
-    -- the code of an item among all is its code by words and notes
-    pub code-noted : (comf : ℕ) → codeAmong comf (itemsOf s ws) ≡ notedCode comf work m v
-    unfolding codeAmong
-    code-noted comf = rw (places, objects, nodes)
+-- ---- the same of a work area that is prepared
+module _ {is : List Item} {ws : List ℕ} {m : ℕ} {work : List ℕ} {v : ℕ} (all : AllWorded is ws) (order : Sorted ws) (so : Prepared (notesFor is) ws m work v) where
+  places : placeIn is ≡ indexOf (wordsIn work 0 m)
+  unfolding placeIn indexOf
+  places = fun-ext (λ (name : ℕ). place-from 0 name all) ∙ ap indexOf (sym (so .words))
+
+  objects : objectIn is ≡ heldFoid (wordsIn work (m + v) (m - v))
+  unfolding heldFoid
+  objects =
+      fun-ext (λ (foid : ℕ).
+      objects-word foid all order
+      ∙ rw (← so .first) (sym (sorted-member foid (drop v (notesFor is))))
+      ∙ ap (isIn foid) (sym (so .foids)))
+
+  nodes : nodeIn is ≡ nodeAt (wordsIn work 0 m) (wordsIn work m v)
+  unfolding nodeIn nodeAt endIn half
+  nodes =
+      fun-ext (λ (topi : ℕ). fun-ext (λ (name : ℕ).
+      rw (places, so .ends, so .first) (nodes-found (eqb topi 1) (indexOf (wordsIn work 0 m) name) all order)))
+
+  -- the code of an item among all is its code by words and notes
+  pub code-noted : (comf : ℕ) → codeAmong comf is ≡ notedCode comf work m v
+  unfolding codeAmong
+  code-noted comf = rw (places, objects, nodes)
+
+-- ---- the items of a file, which is one of bytes, and their words
+-- a word with the item's name has the rank of its class
+pub name-rank : (i : Item) (w : ℕ) → nameOf w ≡ itemName i → i .rcid < 4294967296 → rankIn w ≡ rankOf (i .rcnm)
+unfolding itemName nameFrom
+name-rank i w e small = omega arith
+
+stands-worded : {s : List ℕ} {w : ℕ} → Bytes s → Stands s w → Worded (itemAt s (placeOf w)) w
+stands-worded {s} {w} bytes stands = record {
+  name = stand-name stands;
+  rank = stand-rank stands (bytes .low);
+  class = λ (e : rankOf (rcnmAt s (placeOf w)) ≡ 3). last-feature (rcnmAt s (placeOf w)) e (stands .known .class);
+  few = node-few 2 _ (entries-bytes s (placeOf w) VRPT bytes);
+}
+
+pub items-worded : {s : List ℕ} (ws : List ℕ) → Bytes s → AllStand s ws → AllWorded (itemsOf s ws) ws
+unfolding itemsOf
+items-worded [] bytes all = worded-none
+items-worded (w ∷ ws) bytes all = worded-more (stands-worded bytes (stand-first all)) (items-worded ws bytes (stand-rest all))

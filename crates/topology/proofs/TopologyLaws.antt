@@ -32,9 +32,9 @@ use Rattle.shape.specs.Shape.{shapeCode}
 use Rattle.pointer.specs.Pointer.{firstCode, lnamsCode, pointerCode}
 use Rattle.ring.specs.Ring.{ringCode, areaCode}
 use Rattle.topology.specs.Topology.{itemCode, codeAmong, faultFrom, topologyOf, topologyFault}
-use Rattle.topology.specs.Notes.{notedCode, Roomy, Prepared}
+use Rattle.topology.specs.Notes.{notesFor, notedCode, Roomy, Prepared}
 use Rattle.topology.proofs.BytesLaws.{Bytes}
-use Rattle.topology.proofs.ReachLaws.{code-noted}
+use Rattle.topology.proofs.ReachLaws.{code-noted, items-worded}
 
 -- ---- one item: a is its code of Shape
 pub feature-told : (s : List ℕ) (at r : ℕ) → Identified s at → r ≡ rcnmAt s at → r ≡ 100 → Featured s at
@@ -132,7 +132,7 @@ module _ {s : List ℕ} {n : ℕ} {work : List ℕ} (readable : Readable false s
   pub held-roomy : (m : ℕ) → m ≡ n - 3 → 16 * n ≤ length work → Roomy s work m
   held-roomy m e room = record { room = omega arith; stand = rw e held-stand }
 
-  module _ {m : ℕ} {next : List ℕ} {v : ℕ} (is : m ≡ n - 3) (so : Prepared s (wordsIn work 0 m) m next v) where
+  module _ {m : ℕ} {next : List ℕ} {v : ℕ} (is : m ≡ n - 3) (so : Prepared (notesFor (itemsOf s (wordsIn work 0 m))) (wordsIn work 0 m) m next v) where
     pub held-next : AllStand s (wordsIn next 0 m)
     held-next = rw (so .words, is) held-stand
 
@@ -146,5 +146,5 @@ module _ {s : List ℕ} {n : ℕ} {work : List ℕ} (readable : Readable false s
         → r ≡ faultFrom (notedCode comf next m v) 3 (itemsOf s (wordsIn next 0 m)) → r ≡ topologyFault s n
     unfolding topologyFault topologyOf heldItems
     held-fault bytes comf r factor e =
-        let code = code-noted s (record { low = bytes }) (rw is held-stand) (held-order m is) so comf in
+        let code = code-noted (items-worded (wordsIn work 0 m) (record { low = bytes }) (rw is held-stand)) (held-order m is) so comf in
         e ∙ rw (← code, so .words, is, held .words, factor)

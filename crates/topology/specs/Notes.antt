@@ -1,5 +1,5 @@
 -- The notes beside the name words in the work area, from which pointers and rings are judged. Assumes nothing.
-use Prim.Native.Nat.{ℕ, _+_, _-_, _*_, _/_, _≤_}
+use Prim.Native.Nat.{ℕ, _+_, _-_, _*_, _/_, _≤_, _<_}
 use mathlib.Core.Bool.{cond}
 use mathlib.Core.List.{List, [], _∷_}
 use mathlib.Core.Path.{_≡_}
@@ -7,15 +7,15 @@ use lib.ListN.{length, take, drop}
 use lib.Dec.{eqb}
 use Rattle.table.specs.Table.{VRPT}
 use Rattle.words.specs.Words.{wordsIn}
-use Rattle.words.specs.Order.{sorted, Sorted}
+use Rattle.words.specs.Order.{sorted}
 use Rattle.words.specs.Find.{firstFrom}
-use Rattle.items.specs.Lists.{entriesAt}
-use Rattle.items.specs.Identity.{foidAt, placeOf}
-use Rattle.items.specs.Item.{Item}
+use Rattle.items.specs.Lists.{LaidOut}
+use Rattle.items.specs.Identity.{rcnmAt, rankOf, nameOf, Identified}
+use Rattle.items.specs.Item.{Item, itemName}
 use Rattle.names.specs.Lookup.{indexOf}
-use Rattle.names.specs.Held.{AllStand, Noted}
+use Rattle.names.specs.Held.{itemsOf, AllStand, Noted}
 use Rattle.pointer.specs.Pointer.{heldFoid}
-use Rattle.ring.specs.Ring.{endsWith, nodeAt}
+use Rattle.ring.specs.Ring.{nodeWith, endsWith, nodeAt}
 use Rattle.topology.specs.Topology.{itemCode}
 
 -- the rank of a word's class: 2 an edge, 3 a feature
@@ -27,32 +27,55 @@ abbrev pub featureWord : ℕ
 featureWord = 216172782113783808
 
 -- of a feature its FOID, of an edge its ends
-unfoldable pub noteOf : List ℕ → ℕ → ℕ
-noteOf s w = cond (eqb (rankIn w) 3) (foidAt s (placeOf w)) (cond (eqb (rankIn w) 2) (endsWith (entriesAt s (placeOf w) VRPT)) 0)
+unfoldable pub noteFor : Item → ℕ
+noteFor i = cond (eqb (rankOf (i .rcnm)) 3) (i .foid) (cond (eqb (rankOf (i .rcnm)) 2) (endsWith (i .entries VRPT)) 0)
 
-unfoldable pub notesOf : List ℕ → List ℕ → List ℕ
-notesOf s [] = []
-notesOf s (w ∷ ws) = noteOf s w ∷ notesOf s ws
+unfoldable pub notesFor : List Item → List ℕ
+notesFor [] = []
+notesFor (i ∷ is) = noteFor i ∷ notesFor is
+
+-- a record that is laid out, and the rank of its class
+pub record Ranked (s : List ℕ) (at rank : ℕ) : Type 0 where
+  pub laid : LaidOut s at
+  pub known : Identified s at
+  pub is : rank ≡ rankOf (rcnmAt s at)
 
 -- m words of items, for each of which there is room for a note
 pub record Roomy (s work : List ℕ) (m : ℕ) : Type 0 where
   pub room : 16 * m ≤ length work
   pub stand : AllStand s (wordsIn work 0 m)
 
--- in `next` a note stands for each of the m words of `work`, which are as they were
-pub record NotesPut (s work : List ℕ) (m : ℕ) (next : List ℕ) : Type 0 where
-  pub words : wordsIn next 0 m ≡ wordsIn work 0 m
-  pub notes : wordsIn next m m ≡ notesOf s (wordsIn work 0 m)
+-- `next` differs from `work` at most in the notes of m words, which stand behind these
+pub record Beside (work : List ℕ) (m : ℕ) (next : List ℕ) : Type 0 where
+  pub front : take (8 * m) next ≡ take (8 * m) work
+  pub back : drop (8 * (m + m)) next ≡ drop (8 * (m + m)) work
   pub size : length next ≡ length work
 
--- the same with the FOIDs of the features in order, v being the number of vectors
-pub record Prepared (s ws : List ℕ) (m : ℕ) (next : List ℕ) (v : ℕ) : Type 0 where
+-- in `next` these notes stand, one for each of the m words of `work`, which are as they were
+pub record NotesPut (notes work : List ℕ) (m : ℕ) (next : List ℕ) : Type 0 where
+  pub is : wordsIn next m m ≡ notes
+  pub beside : Beside work m next
+
+-- the notes of m items with these words, those of the features in order; v is the number of vectors
+pub record Prepared (notes ws : List ℕ) (m : ℕ) (next : List ℕ) (v : ℕ) : Type 0 where
   pub noted : Noted next m v
   pub words : wordsIn next 0 m ≡ ws
   pub first : v ≡ firstFrom featureWord ws
-  pub ends : wordsIn next m v ≡ notesOf s (take v ws)
-  pub foids : wordsIn next (m + v) (m - v) ≡ sorted (notesOf s (drop v ws))
+  pub ends : wordsIn next m v ≡ take v notes
+  pub foids : wordsIn next (m + v) (m - v) ≡ sorted (drop v notes)
 
 -- the code of an item, by words and notes
 abbrev pub notedCode : ℕ → List ℕ → ℕ → ℕ → Item → ℕ
 notedCode comf work m v = itemCode comf (indexOf (wordsIn work 0 m)) (heldFoid (wordsIn work (m + v) (m - v))) (nodeAt (wordsIn work 0 m) (wordsIn work m v))
+
+-- ---- words that stand for items, as proofs take them; nothing of this need be believed
+-- the word has the item's name and the rank of its class, and of an edge the end fits its half of the note
+pub record Worded (i : Item) (w : ℕ) : Type 0 where
+  pub name : nameOf w ≡ itemName i
+  pub rank : rankIn w ≡ rankOf (i .rcnm)
+  pub class : rankOf (i .rcnm) ≡ 3 → i .rcnm ≡ 100
+  pub few : nodeWith 2 (i .entries VRPT) < 4294967296
+
+pub data AllWorded : List Item → List ℕ → Type 0 where
+  worded-none : AllWorded [] []
+  worded-more : {i : Item} {is : List Item} {w : ℕ} {ws : List ℕ} → Worded i w → AllWorded is ws → AllWorded (i ∷ is) (w ∷ ws)

@@ -31,7 +31,7 @@ pub mod note;
 
 // The code of the item at `at`, by the words and notes of m items, of which v are vectors. Of an area
 // Pointer and Ring are judged together, of anything else there is no Ring.
-fn item_code(s: &[u8], at: usize, comf: u32, work: &[u8], m: usize, v: usize) -> u32
+pub fn item_code(s: &[u8], at: usize, comf: u32, work: &[u8], m: usize, v: usize) -> u32
     requires { ⌜ LaidOut (now s) at × Identified (now s) at × Noted (now work) m v × (comf ≤ 10000000) ⌝ }
     ensures { λ r. ⌜ r ≡ notedCode comf (now (work .entry)) m v (itemAt (now (s .entry)) at) ⌝ }
 {

@@ -6,8 +6,10 @@ ghost use mathlib.Core.Path.{_≡_};
 ghost use lib.ListN.{length};
 ghost use Rattle.words.specs.Words.{wordsIn};
 ghost use Rattle.words.specs.Order.{Sorted};
-ghost use Rattle.names.specs.Held.{Stands};
-ghost use Rattle.topology.specs.Notes.{noteOf, Roomy, NotesPut, Prepared};
+ghost use Rattle.items.specs.Identity.{placeOf};
+ghost use Rattle.items.specs.Item.{itemAt};
+ghost use Rattle.names.specs.Held.{Stands, itemsOf};
+ghost use Rattle.topology.specs.Notes.{noteFor, notesFor, Ranked, Roomy, Beside, NotesPut, Prepared};
 use iso8211::field::head_of;
 use items::identity::foid_of;
 use ring::ends::ends_of;
@@ -16,13 +18,11 @@ use words::get;
 use words::put;
 use words::sort;
 
-// The note of the item whose word is w.
-fn note_of(s: &[u8], w: u64) -> u64
-    requires { ⌜ Stands (now s) w ⌝ }
-    ensures { λ r. ⌜ r ≡ noteOf (now (s .entry)) w ⌝ }
+// The note of the item at `at`, whose class has this rank.
+pub fn note_at(s: &[u8], at: usize, rank: u64) -> u64
+    requires { ⌜ Ranked (now s) at rank ⌝ }
+    ensures { λ r. ⌜ r ≡ noteFor (itemAt (now (s .entry)) at) ⌝ }
 {
-    let rank = w / 72057594037927936;
-    let at = (w % 16777216) as usize;
     if rank == 3 {
         return foid_of(s, at, head_of(s, at));
     }
@@ -32,10 +32,19 @@ fn note_of(s: &[u8], w: u64) -> u64
     0
 }
 
+// The note of the item whose word is w.
+fn note_of(s: &[u8], w: u64) -> u64
+    requires { ⌜ Stands (now s) w ⌝ }
+    ensures { λ r. ⌜ r ≡ noteFor (itemAt (now (s .entry)) (placeOf w)) ⌝ }
+{
+    let at = (w % 16777216) as usize;
+    note_at(s, at, w / 72057594037927936)
+}
+
 // The notes of the m items whose words stand at the front of the area, behind these.
 fn put_notes(s: &[u8], work: &mut [u8], m: usize)
     requires { ⌜ Roomy (now s) (now work) m ⌝ }
-    ensures { λ _. ⌜ NotesPut (now (s .entry)) (now (work .entry)) m (now (work .exit)) ⌝ }
+    ensures { λ _. ⌜ NotesPut (notesFor (itemsOf (now (s .entry)) (wordsIn (now (work .entry)) 0 m))) (now (work .entry)) m (now (work .exit)) ⌝ }
 {
     let mut i: usize = 0;
     while i < m {
@@ -45,13 +54,21 @@ fn put_notes(s: &[u8], work: &mut [u8], m: usize)
     }
 }
 
-// The same, with the notes of the features in order; the answer is the number of vectors.
-pub fn prepare(s: &[u8], work: &mut [u8], m: usize) -> usize
-    requires { ⌜ Roomy (now s) (now work) m × Sorted (wordsIn (now work) 0 m) ⌝ }
-    ensures { λ r. ⌜ Prepared (now (s .entry)) (wordsIn (now (work .entry)) 0 m) m (now (work .exit)) r ⌝ }
+// Behind m words their notes, those of the features put in order; the answer is the number of vectors.
+pub fn sort_notes(work: &mut [u8], m: usize) -> usize
+    requires { ⌜ (16 * m ≤ length (now work)) × Sorted (wordsIn (now work) 0 m) ⌝ }
+    ensures { λ r. ⌜ Prepared (wordsIn (now (work .entry)) m m) (wordsIn (now (work .entry)) 0 m) m (now (work .exit)) r × Beside (now (work .entry)) m (now (work .exit)) ⌝ }
 {
-    put_notes(s, work, m);
     let vectors = find(work, 0, m, 216172782113783808);
     sort(work, m + vectors, m - vectors);
     vectors
+}
+
+// The notes of m items of a file, with those of the features in order.
+pub fn prepare(s: &[u8], work: &mut [u8], m: usize) -> usize
+    requires { ⌜ Roomy (now s) (now work) m × Sorted (wordsIn (now work) 0 m) ⌝ }
+    ensures { λ r. ⌜ Prepared (notesFor (itemsOf (now (s .entry)) (wordsIn (now (work .entry)) 0 m))) (wordsIn (now (work .entry)) 0 m) m (now (work .exit)) r ⌝ }
+{
+    put_notes(s, work, m);
+    sort_notes(work, m)
 }

@@ -89,7 +89,7 @@ module _ (s work : List ℕ) (m k : ℕ) (past : m ≤ k) where
   pub all-end : {a b all : List ℕ} {p q : ℕ} → Going a p all b q (writtenFrom (k + 3) s (drop k (wordsIn work 0 m))) → Wrote a p all b q
   all-end g = going-end g none
 
-  pub sizes-end : (sum most : ℕ) → m ≤ 65536 → k ≤ m → sum ≤ k * 500000
+  pub sizes-end : (sum most : ℕ) → m ≤ 65536 → k ≤ m → sum ≤ k * 1300000
       → length (writtenFrom 3 s (wordsIn work 0 m)) ≡ sum + length (writtenFrom (k + 3) s (drop k (wordsIn work 0 m)))
       → mostOf 3 s (wordsIn work 0 m) ≡ max most (mostOf (k + 3) s (drop k (wordsIn work 0 m))) → AllSized s (wordsIn work 0 m) (record { sum = sum; most = most })
   unfolding mostOf

@@ -96,7 +96,7 @@ unfolding tagsOf tagOf rowOf table asNumber bytes
 feature-tagged = record { is = refl; four = refl }
 
 -- ---- the lists
-list-piece : (k : ℕ) (es : List (List ℕ)) (bs : List ℕ) → flatten es ≡ bs → (bs ≡ [] → es ≡ []) → listPiece k es ≡ fieldPiece k bs
+pub list-piece : (k : ℕ) (es : List (List ℕ)) (bs : List ℕ) → flatten es ≡ bs → (bs ≡ [] → es ≡ []) → listPiece k es ≡ fieldPiece k bs
 unfolding listPiece fieldPiece flatten
 list-piece k [] [] e none = refl
 list-piece k [] (b ∷ bs) e none = absurd (let z = ap length e in omega arith)
@@ -119,7 +119,7 @@ feature-lists s at laid = rw (list-copied s at 12 laid refl, list-copied s at 13
 
 -- ---- the identifier fields, from the numbers that they say
 module _ (s : List ℕ) (at : ℕ) (small : (i : ℕ) → byteAt s i < 256) where
-  byte-as : (p v : ℕ) → byteAt s p ≡ v → p + 1 ≤ length s → bytesOf 1 v ≡ take 1 (drop p s)
+  pub byte-as : (p v : ℕ) → byteAt s p ≡ v → p + 1 ≤ length s → bytesOf 1 v ≡ take 1 (drop p s)
   byte-as p v e h = ap (λ (x : ℕ). bytesOf 1 x) (sym e ∙ sym (num-one s p)) ∙ num-bytes s small 1 p h
 
   last-as : (p : ℕ) → byteAt s p ≡ 1 → p + 1 ≤ length s → 1 ∷ [] ≡ take 1 (drop p s)

@@ -10,7 +10,6 @@ use lib.Seq.{length-take-le, take-suc, take-append-add, drop-cons, drop-drop, ge
 use Rattle.octets.specs.Number.{byteAt}
 use Rattle.iso8211.specs.Leader.{baseAt, lengthDigits, positionDigits}
 use Rattle.iso8211.specs.Directory.{tag, len, position, rowAt, rowWidth}
-use Rattle.iso8211.specs.Record.{endOf}
 use Rattle.iso8211.specs.Field.{countAt, directoryAt, fieldAt}
 use Rattle.iso8211.proofs.DirectoryLaws.{rows-row}
 use Rattle.iso8211.proofs.Promise.{directory-length}
@@ -37,14 +36,14 @@ module _ (s : List ℕ) (at : ℕ) (laid : LaidOut s at) (j : ℕ) (here : j < c
       let inside = laid .inside .fields j here in
       let long = inside .long in
       let within = inside .within in
-      let fits = laid .inside .framed .fits in
+      let fits = laid .inside .fits in
       let e = length-take-le (fieldAt s at j .length - 1) (drop (fieldAt s at j .start) s) (rw length-drop (omega arith)) in
       omega arith
 
   pub content-fits : fieldAt s at j .start + (length (contentAt s at j) + 1) ≤ length s
   content-fits =
       let within = laid .inside .fields j here .within in
-      let fits = laid .inside .framed .fits in
+      let fits = laid .inside .fits in
       omega (arith, content-long)
 
   pub content-is : (n : ℕ) → length (contentAt s at j) ≡ n → contentAt s at j ≡ take n (drop (fieldAt s at j .start) s)
@@ -113,9 +112,9 @@ module _ (s : List ℕ) (at : ℕ) (laid : LaidOut s at) where
   field-end zero j e = omega (arith, last-end j (omega arith))
   field-end (suc n) j e = let g = laid .inside .gapless j (omega arith) in omega (arith, field-end n (j + 1) (omega arith))
 
-  pub end-within : endOfFields s at ≤ endOf s at
+  pub end-within : endOfFields s at ≤ laid .inside .end
   end-within =
-      let some = laid .inside .framed .some in
+      let some = laid .inside .headed .some in
       let last : countAt s at - 1 + 1 ≡ countAt s at = omega arith in
       let within = laid .inside .fields (countAt s at - 1) (omega arith) .within in
       omega (arith, last-end (countAt s at - 1) last)
@@ -143,7 +142,7 @@ module _ (s : List ℕ) (at : ℕ) (laid : LaidOut s at) where
       let start = fieldAt s at j .start in
       let rest = endOfFields s at - fieldAt s at (j + 1) .start in
       let size : suc (length c) + rest ≡ endOfFields s at - start = omega arith in
-      let fits = laid .inside .framed .fits in
+      let fits = laid .inside .fits in
       let within = end-within in
       rw (fields-bytes n (j + 1) (omega arith))
       (sym (append-assoc c (30 ∷ []) (take rest (drop (fieldAt s at (j + 1) .start) s)))

@@ -26,7 +26,7 @@ use Rattle.writing.proofs.RowLaws.{bytes-no, bytes-some, four-is}
 use Rattle.writing.proofs.PlanLaws.{Planned, planned-size, planned-head, planned-room, planned-put}
 
 -- ---- lists by their lengths
-lengths : (ℕ → List ℕ) → List ℕ → List ℕ
+unfoldable pub lengths : (ℕ → List ℕ) → List ℕ → List ℕ
 lengths bytes [] = []
 lengths bytes (k ∷ ks) = length (bytes k) ∷ lengths bytes ks
 
@@ -39,12 +39,12 @@ unfolding rowsFor fieldPiece listRow
 field-row due k [] = refl
 field-row due k (b ∷ bs) = sym (row-some due (tagOf k) (length (b ∷ bs)) (λ (e : length (b ∷ bs) ≡ 0). omega arith))
 
-field-long : (k : ℕ) (bs : List ℕ) → length (bodyOf (fieldPiece k bs)) ≡ bytesFor (length bs)
+pub field-long : (k : ℕ) (bs : List ℕ) → length (bodyOf (fieldPiece k bs)) ≡ bytesFor (length bs)
 unfolding bodyOf fieldPiece
 field-long k [] = bytes-no 0 refl
 field-long k (b ∷ bs) = length-append (b ∷ bs) (30 ∷ []) ∙ bytes-some (length (b ∷ bs)) (λ (e : length (b ∷ bs) ≡ 0). omega arith)
 
-rows-append : (due : ℕ) (fs gs : List Piece) → rowsFor due (fs ++ gs) ≡ rowsFor due fs ++ rowsFor (due + length (bodyOf fs)) gs
+pub rows-append : (due : ℕ) (fs gs : List Piece) → rowsFor due (fs ++ gs) ≡ rowsFor due fs ++ rowsFor (due + length (bodyOf fs)) gs
 unfolding rowsFor bodyOf
 rows-append due [] gs = ap (λ (n : ℕ). rowsFor n gs) (sym (add-zero due))
 rows-append due (f ∷ fs) gs =
@@ -61,14 +61,14 @@ none-long : length (bodyOf []) ≡ 0
 unfolding bodyOf
 none-long = refl
 
-lists-rows : (ks : List ℕ) (bytes : ℕ → List ℕ) (due : ℕ) → rowsFor due (fieldPieces ks bytes) ≡ listRows due (tagsOf ks) (lengths bytes ks)
+pub lists-rows : (ks : List ℕ) (bytes : ℕ → List ℕ) (due : ℕ) → rowsFor due (fieldPieces ks bytes) ≡ listRows due (tagsOf ks) (lengths bytes ks)
 unfolding fieldPieces listRows tagsOf lengths
 lists-rows [] bytes due = none-of due
 lists-rows (k ∷ ks) bytes due =
     rows-append due (fieldPiece k (bytes k)) (fieldPieces ks bytes)
     ∙ rw (field-row due k (bytes k), field-long k (bytes k), lists-rows ks bytes (due + bytesFor (length (bytes k))))
 
-lists-sum : (ks : List ℕ) (bytes : ℕ → List ℕ) → length (bodyOf (fieldPieces ks bytes)) ≡ sumOf (lengths bytes ks)
+pub lists-sum : (ks : List ℕ) (bytes : ℕ → List ℕ) → length (bodyOf (fieldPieces ks bytes)) ≡ sumOf (lengths bytes ks)
 unfolding fieldPieces sumBy lengths
 lists-sum [] bytes = none-long
 lists-sum (k ∷ ks) bytes =
@@ -118,7 +118,7 @@ module _ (s : List ℕ) (at m fixed : ℕ) (rows : List (List ℕ)) (kinds tags 
         long = omega arith;
       }
 
-  pub joined-sized : (base : ℕ) → base ≡ baseFor (take (1 + m + n) all) → base ≤ 217 → x ≤ 400000 → Sized s at m kinds (base + (fixed + x))
+  pub joined-sized : (base : ℕ) → base ≡ baseFor (take (1 + m + n) all) → base ≤ 217 → x ≤ 1200004 → Sized s at m kinds (base + (fixed + x))
   joined-sized base eb low few = record {
     is = λ number. rw eb (planned-size (planned number));
     few = let most = lead .most in omega arith;

@@ -1,4 +1,4 @@
--- The laws of `writing`: for the crates above `cell-writable`, the others for the proofs of this crate.
+-- The laws of `writing`: for the crates above `cell-writable` and `stood`, the others for the proofs of this crate.
 pub mod PartLaws
 pub mod RowLaws
 pub mod PlanLaws
@@ -11,3 +11,4 @@ pub mod StandLaws
 pub mod PlainLaws
 pub mod AllLaws
 pub mod WritableLaws
+pub mod StoodLaws

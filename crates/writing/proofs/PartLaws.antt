@@ -39,9 +39,9 @@ module _ (s : List ℕ) (at k j tag kind : ℕ) (f : Field) (laid : LaidOut s at
   pub part-copied : {a b : List ℕ} {p r : ℕ} → Wrote a p (take (f .start + (f .length - 1) - f .start) (drop (f .start) s)) b r → Wrote a p (partAt s at k j) b r
   part-copied w = wrote-as (partAt s at k j) (ap (λ (n : ℕ). take n (drop (f .start) s)) cut ∙ sym part-is) w
 
-pub part-most : {s : List ℕ} {at : ℕ} (j : ℕ) (f : Field) → LaidOut s at → j < countAt s at → f ≡ fieldAt s at j → f .length - 1 ≤ 99999
+pub part-most : {s : List ℕ} {at : ℕ} (j : ℕ) (f : Field) → LaidOut s at → j < countAt s at → f ≡ fieldAt s at j → f .length - 1 ≤ 300000
 part-most {s} {at} j f laid here read =
-    rw read (let within = laid .inside .fields j here .within in let after = laid .inside .fields j here .after in let small = laid .inside .framed .small in omega arith)
+    rw read (let within = laid .inside .fields j here .within in let after = laid .inside .fields j here .after in let small = laid .inside .small in omega arith)
 
 module _ (s : List ℕ) (at k j tag kind : ℕ) (named : tag ≡ fieldAt s at j .tag) (told : kind ≡ kindOf tag) (other : kind ≡ k → ⊥) where
   part-none : partAt s at k j ≡ []
@@ -70,8 +70,8 @@ module _ (s : List ℕ) (at k j fields : ℕ) (all : fields ≡ countAt s at) wh
     total-on n t so e = omega (arith, next-long)
 
     -- a list is no longer than a record
-    pub total-few : (n t : ℕ) → LaidOut s at → length (listAt s at k) ≡ n + length (joinFrom (countAt s at - j) s at k j) → t ≡ length (partAt s at k j) → n + t ≤ 99999
-    total-few n t laid so e = let small = laid .inside .framed .small in omega (arith, next-long, list-short s at k laid)
+    pub total-few : (n t : ℕ) → LaidOut s at → length (listAt s at k) ≡ n + length (joinFrom (countAt s at - j) s at k j) → t ≡ length (partAt s at k j) → n + t ≤ 300000
+    total-few n t laid so e = let small = laid .inside .small in omega (arith, next-long, list-short s at k laid)
 
     pub list-room : {a b all : List ℕ} {p q : ℕ} → Going a p all b q (joinFrom (countAt s at - j) s at k j) → p + length all ≤ length a
         → q + length (partAt s at k j) ≤ length b
@@ -100,7 +100,7 @@ four P a b c d (suc (suc zero)) h = c
 four P a b c d (suc (suc (suc zero))) h = d
 four P a b c d (suc (suc (suc (suc i)))) h = absurd (omega arith)
 
-small-four : (a b c d : ℕ) → a ≤ 99999 → b ≤ 99999 → c ≤ 99999 → d ≤ 99999 → (i : ℕ) → getD (a ∷ b ∷ c ∷ d ∷ []) i 0 ≤ 99999
+small-four : (a b c d : ℕ) → a ≤ 300000 → b ≤ 300000 → c ≤ 300000 → d ≤ 300000 → (i : ℕ) → getD (a ∷ b ∷ c ∷ d ∷ []) i 0 ≤ 300000
 small-four a b c d ha hb hc hd zero = ha
 small-four a b c d ha hb hc hd (suc zero) = hb
 small-four a b c d ha hb hc hd (suc (suc zero)) = hc
@@ -108,8 +108,8 @@ small-four a b c d ha hb hc hd (suc (suc (suc zero))) = hd
 small-four a b c d ha hb hc hd (suc (suc (suc (suc i)))) = omega arith
 
 pub totals-are : (s : List ℕ) (at : ℕ) (kinds : List ℕ) (a b c d : ℕ)
-    → (a ≡ length (listAt s at (getD kinds 0 0))) × (a ≤ 99999) → (b ≡ length (listAt s at (getD kinds 1 0))) × (b ≤ 99999)
-    → (c ≡ length (listAt s at (getD kinds 2 0))) × (c ≤ 99999) → (d ≡ length (listAt s at (getD kinds 3 0))) × (d ≤ 99999)
+    → (a ≡ length (listAt s at (getD kinds 0 0))) × (a ≤ 300000) → (b ≡ length (listAt s at (getD kinds 1 0))) × (b ≤ 300000)
+    → (c ≡ length (listAt s at (getD kinds 2 0))) × (c ≤ 300000) → (d ≡ length (listAt s at (getD kinds 3 0))) × (d ≤ 300000)
     → Totals s at kinds (a ∷ b ∷ c ∷ d ∷ [])
 totals-are s at kinds a b c d ha hb hc hd = record {
   is = four (λ i. getD (a ∷ b ∷ c ∷ d ∷ []) i 0 ≡ length (listAt s at (getD kinds i 0))) (ha .0) (hb .0) (hc .0) (hd .0);

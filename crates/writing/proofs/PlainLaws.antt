@@ -52,7 +52,7 @@ module _ (s : List ℕ) (at n : ℕ) (out : List (List ℕ)) (r : Bool) (w : Wri
   plain-ended = record {
     some = omega (arith, some);
     few = omega (arith, told .few (not-false r is));
-    short = let small = w .laid .inside .framed .small in omega (arith, ends, end-within s at (w .laid));
+    short = let small = w .laid .inside .small in omega (arith, ends, end-within s at (w .laid));
   }
 
   module _ (b : ℕ) (told-end : b ≡ len (getD out (n - 1) []) + position (getD out (n - 1) [])) where
@@ -67,7 +67,7 @@ module _ (s : List ℕ) (at n : ℕ) (out : List (List ℕ)) (r : Bool) (w : Wri
     plain-least = omega (arith, ends, id-place, end-behind s at (w .laid) 1 (omega (arith, some)))
 
     fits : idAt s at + (b - 3) ≤ length s
-    fits = let whole = w .laid .inside .framed .fits in omega (arith, ends, id-place, plain-least, end-within s at (w .laid))
+    fits = let whole = w .laid .inside .fits in omega (arith, ends, id-place, plain-least, end-within s at (w .laid))
 
     body-is : (number : ℕ) → bodyOf (standing number s at) ≡ bytesOf 2 number ++ (30 ∷ take (b - 3) (drop (idAt s at) s))
     body-is number = stands-body s at w plainly number ∙ ap (λ (k : ℕ). bytesOf 2 number ++ (30 ∷ take k (drop (idAt s at) s))) behind
@@ -87,7 +87,7 @@ module _ (s : List ℕ) (at n : ℕ) (out : List (List ℕ)) (r : Bool) (w : Wri
           planned-as (objectPieces number (objectAt s at)) (sym (stands s at w plainly small number))
           (record { rows-are = rows-are ∙ sym (stands-rows s at w plainly number); long = sym (body-long number) })
 
-      pub plain-sized : (base : ℕ) → base ≡ baseFor (take n out) → base ≤ 217 → b ≤ 99999 → ItemSized s at (base + b)
+      pub plain-sized : (base : ℕ) → base ≡ baseFor (take n out) → base ≤ 217 → b ≤ 300000 → ItemSized s at (base + b)
       plain-sized base e low few = record { is = λ number. rw e (planned-size (planned number)); few = omega arith }
 
       pub plain-head : (number place room : ℕ) → place + sizeOf (objectPieces number (objectAt s at)) ≤ room → place + length (headBytes (take n out) b) ≤ room

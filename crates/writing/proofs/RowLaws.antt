@@ -60,7 +60,7 @@ pub record Listing (rows : List (List ℕ)) (n due : ℕ) (tags totals : List �
   pub long : length out ≡ 8
   pub least : n ≤ m
   pub few : m ≤ n + i
-  pub near : d ≤ due + i * 100000
+  pub near : d ≤ due + i * 300001
   pub are : take m out ++ listRows d (drop i tags) (drop i totals) ≡ take n rows ++ listRows due tags totals
   pub count : m + countOf (drop i totals) ≡ n + countOf totals
 
@@ -71,7 +71,7 @@ listing-start rows n due tags totals long =
 module _ {rows out : List (List ℕ)} {n due m d i : ℕ} {tags totals : List ℕ} (so : Listing rows n due tags totals out m d i) (lg : length tags ≡ 4) (lt : length totals ≡ 4) where
   pub listing-on : {next : List (List ℕ)} (f b : ℕ) → i < 4
       → (length next ≡ 8) × (take (m + fieldsOf (getD totals i 0)) next ≡ take m out ++ listRow d (getD tags i 0) (getD totals i 0))
-      → (f ≡ fieldsOf (getD totals i 0)) × (f ≤ 1) → (b ≡ bytesFor (getD totals i 0)) × (b ≤ 100000) → Listing rows n due tags totals next (m + f) (d + b) (i + 1)
+      → (f ≡ fieldsOf (getD totals i 0)) × (f ≤ 1) → (b ≡ bytesFor (getD totals i 0)) × (b ≤ 300001) → Listing rows n due tags totals next (m + f) (d + b) (i + 1)
   unfolding listRows sumBy
   listing-on f b here (long, step) (ef, lf) (eb, lb) =
       let inside = so .inside in

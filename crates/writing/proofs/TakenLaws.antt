@@ -111,7 +111,6 @@ rows-read out head read = rw (← (head .count), ← (head .lengths), ← (head 
 
 pub rows-within : {s : List ℕ} {at : ℕ} {h : Head} → HeadOf s at h → at + 24 + h .count * rowWidth (h .lengths) (h .positions) ≤ length s
 rows-within {s} {at} {h} head =
-    let whole = head .framed .whole in
-    let high = head .framed .high in
-    let fits = head .framed .fits in
+    let whole = head .headed .whole in
+    let room = head .headed .room in
     rw (head .count, head .lengths, head .positions) (omega arith)

@@ -36,4 +36,4 @@ pub record Words (s : List ℕ) (m : ℕ) (work : List ℕ) : Type 0 where
 pub record AllSized (s ws : List ℕ) (r : Sizes) : Type 0 where
   pub sum-is : r .sum ≡ length (writtenFrom 3 s ws)
   pub most-is : r .most ≡ mostOf 3 s ws
-  pub sum-few : r .sum ≤ 32768000000
+  pub sum-few : r .sum ≤ 85196800000

@@ -72,9 +72,9 @@ listRows due [] ts = []
 listRows due (g ∷ gs) [] = []
 listRows due (g ∷ gs) (t ∷ ts) = listRow due g t ++ listRows (due + bytesFor t) gs ts
 
--- no list is longer than a record
+-- no list is longer than the fields of a record may be
 pub record Small (totals : List ℕ) : Type 0 where
-  pub each : (i : ℕ) → getD totals i 0 ≤ 99999
+  pub each : (i : ℕ) → getD totals i 0 ≤ 300000
 
 -- how many bytes the four lists of these kinds have
 pub record Totals (s : List ℕ) (at : ℕ) (kinds totals : List ℕ) : Type 0 where
@@ -100,4 +100,4 @@ pub record Lead (s : List ℕ) (at m fixed : ℕ) (rows : List (List ℕ)) : Typ
 -- the record of such fields has r bytes, whatever its running number
 pub record Sized (s : List ℕ) (at m : ℕ) (kinds : List ℕ) (r : ℕ) : Type 0 where
   pub is : (number : ℕ) → r ≡ sizeOf (joinedPieces number s at m kinds)
-  pub few : r ≤ 500000
+  pub few : r ≤ 1300000

@@ -15,7 +15,7 @@ use Rattle.layout.specs.Record.{kindAt}
 use Rattle.items.specs.Identity.{idAt, rcnmAt, Identified}
 use Rattle.items.specs.Lists.{LaidOut}
 use Rattle.records.specs.Written.{sizeOf}
-use Rattle.objects.specs.Object.{objectAt, objectPieces, vectorKinds, featureKinds}
+use Rattle.objects.specs.Object.{Object, objectAt, objectPieces, vectorKinds, featureKinds}
 
 -- ---- an item of a cell whose record can be copied
 pub record Writable (s : List ℕ) (at : ℕ) : Type 0 where
@@ -24,10 +24,15 @@ pub record Writable (s : List ℕ) (at : ℕ) : Type 0 where
   pub vector : (rcnmAt s at ≡ 100 → ⊥) → (kindAt s at 1 ≡ VRID) × (byteAt s (idAt s at + 7) ≡ 1)
   pub feature : rcnmAt s at ≡ 100 → byteAt s (idAt s at + 11) ≡ 1
 
+-- the same with what it is known to be: an item whose record was written at `at`, be it in a work area
+pub record Stood (s : List ℕ) (at : ℕ) (t : Object) : Type 0 where
+  pub able : Writable s at
+  pub same : objectAt s at ≡ t
+
 -- its record in held form has r bytes, whatever its running number
 pub record ItemSized (s : List ℕ) (at r : ℕ) : Type 0 where
   pub is : (number : ℕ) → r ≡ sizeOf (objectPieces number (objectAt s at))
-  pub few : r ≤ 500000
+  pub few : r ≤ 1300000
 
 -- ---- "one field a list", in held order: rows whose fields can be copied as they stand
 unfoldable pub tagsOf : List ℕ → List ℕ
@@ -51,8 +56,8 @@ pub record PlainTold (s : List ℕ) (at : ℕ) (r : Bool) : Type 0 where
   pub few : r ≡ true → countAt s at ≤ 8
   pub is : r ≡ true → Plain (directoryAt s at)
 
--- of n rows, at most eight, the last ends within a record
+-- of n rows, at most eight, the last ends within 300,000 bytes
 pub record Ended (rows : List (List ℕ)) (n : ℕ) : Type 0 where
   pub some : 1 ≤ n
   pub few : n ≤ 8
-  pub short : len (getD rows (n - 1) []) + position (getD rows (n - 1) []) ≤ 99999
+  pub short : len (getD rows (n - 1) []) + position (getD rows (n - 1) []) ≤ 300000

@@ -17,7 +17,7 @@ use table::kind_of;
 // How many bytes field j brings to the list of kind k.
 fn part_size(s: &[u8], at: usize, h: Head, k: usize, j: usize) -> usize
     requires { ⌜ LaidOut (now s) at × HeadOf (now s) at h × (j < countAt (now s) at) ⌝ }
-    ensures { λ r. ⌜ (r ≡ length (partAt (now (s .entry)) at k j)) × (r ≤ 99999) ⌝ }
+    ensures { λ r. ⌜ (r ≡ length (partAt (now (s .entry)) at k j)) × (r ≤ 300000) ⌝ }
 {
     if kind_of(tag_of(s, at, h, j)) == k {
         let f = field_at(s, at, h, j);
@@ -29,7 +29,7 @@ fn part_size(s: &[u8], at: usize, h: Head, k: usize, j: usize) -> usize
 // How many bytes the list of kind k has.
 pub fn total(s: &[u8], at: usize, h: Head, k: usize) -> u32
     requires { ⌜ LaidOut (now s) at × HeadOf (now s) at h ⌝ }
-    ensures { λ r. ⌜ (r ≡ length (listAt (now (s .entry)) at k)) × (r ≤ 99999) ⌝ }
+    ensures { λ r. ⌜ (r ≡ length (listAt (now (s .entry)) at k)) × (r ≤ 300000) ⌝ }
 {
     let fields = h.count;
     let mut n: usize = 0;
@@ -67,7 +67,7 @@ fn put_part(s: &[u8], at: usize, h: Head, k: usize, j: usize, out: &mut [u8], pl
 }
 
 // The bytes of the list of kind k, copied.
-fn put_list(s: &[u8], at: usize, h: Head, k: usize, out: &mut [u8], place: usize) -> usize
+pub fn put_list(s: &[u8], at: usize, h: Head, k: usize, out: &mut [u8], place: usize) -> usize
     requires { ⌜ LaidOut (now s) at × HeadOf (now s) at h × (place + length (listAt (now s) at k) ≤ length (now out)) ⌝ }
     ensures { λ r. ⌜ Wrote (now (out .entry)) place (listAt (now (s .entry)) at k) (now (out .exit)) r ⌝ }
 {

@@ -78,7 +78,7 @@ pub fn rows_of(s: &[u8], at: usize, h: Head) -> [[u32; 3]; 8]
 // How many bytes the fields of n rows have, each with its 1E: the last ends there.
 pub fn body_of(rows: [[u32; 3]; 8], n: usize) -> u32
     requires { ⌜ Ended rows n ⌝ }
-    ensures { λ r. ⌜ (r ≡ len (getD rows (n - 1) []) + position (getD rows (n - 1) [])) × (r ≤ 99999) ⌝ }
+    ensures { λ r. ⌜ (r ≡ len (getD rows (n - 1) []) + position (getD rows (n - 1) [])) × (r ≤ 300000) ⌝ }
 {
     let last = rows[n - 1];
     last[1] + last[2]

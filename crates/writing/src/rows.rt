@@ -17,8 +17,8 @@ fn fields_of(t: u32) -> usize
 
 // How many bytes they have, with their 1E.
 fn bytes_for(t: u32) -> u32
-    requires { ⌜ t ≤ 99999 ⌝ }
-    ensures { λ r. ⌜ (r ≡ bytesFor t) × (r ≤ 100000) ⌝ }
+    requires { ⌜ t ≤ 300000 ⌝ }
+    ensures { λ r. ⌜ (r ≡ bytesFor t) × (r ≤ 300001) ⌝ }
 {
     if t == 0 {
         return 0;
@@ -34,14 +34,14 @@ pub fn count_of(totals: [u32; 4]) -> usize
 
 pub fn sum_of(totals: [u32; 4]) -> u32
     requires { ⌜ Small totals ⌝ }
-    ensures { λ r. ⌜ (r ≡ sumOf totals) × (r ≤ 400000) ⌝ }
+    ensures { λ r. ⌜ (r ≡ sumOf totals) × (r ≤ 1200004) ⌝ }
 {
     bytes_for(totals[0]) + bytes_for(totals[1]) + bytes_for(totals[2]) + bytes_for(totals[3])
 }
 
 // The row of a list of t bytes, if it has any, behind n others.
 fn with_list(rows: [[u32; 3]; 8], n: usize, due: u32, tag: u32, t: u32) -> [[u32; 3]; 8]
-    requires { ⌜ (n < 8) × (t ≤ 99999) ⌝ }
+    requires { ⌜ (n < 8) × (t ≤ 300000) ⌝ }
     ensures { λ r. ⌜ (length r ≡ 8) × (take (n + fieldsOf t) r ≡ take n rows ++ listRow due tag t) ⌝ }
 {
     if t == 0 {
@@ -60,7 +60,7 @@ pub fn list_rows(
     tags: [u32; 4],
     totals: [u32; 4],
 ) -> [[u32; 3]; 8]
-    requires { ⌜ (n ≤ 4) × ((due ≤ 100000) × Small totals) ⌝ }
+    requires { ⌜ (n ≤ 4) × ((due ≤ 300000) × Small totals) ⌝ }
     ensures { λ r. ⌜ take (n + countOf totals) r ≡ take n rows ++ listRows due tags totals ⌝ }
 {
     let mut out = rows;

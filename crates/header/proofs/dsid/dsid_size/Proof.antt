@@ -1,42 +1,21 @@
--- The length of what is written, part by part. Assumes nothing.
+-- With its own UPDN. Assumes nothing.
 use Rattle.header.proofs.PutLaws.{dsid-sized}
 use borrow.Author.Needs.{needs}
 use Rattle.header.proofs.dsid.dsid_size.Statement.{statement}
 use Rattle.header.proofs.dsid.dsid_size.Tie as tie
+use Rattle.header.proofs.dsid.dsid_size.Reads as reads
+use Rattle.header.proofs.dsid.dsid_size.Lts as lts
+use Rattle.header.proofs.dsid.parts_of.Reads as parts-of-reads
+use Rattle.header.proofs.dsid.size_with.Reads as size-with-reads
 
 parts-of-requires : tie.Need-parts-of-requires
 parts-of-requires c κs = search needs
 
-fewest-digits-requires : tie.Need-fewest-digits-requires
-fewest-digits-requires c κs = search needs
-
-add-result : tie.Need-add-result
-add-result c = search needs
-
-fewest-digits-requires-2 : tie.Need-fewest-digits-requires-2
-fewest-digits-requires-2 c κs = search needs
-
-add-result-2 : tie.Need-add-result-2
-add-result-2 c = search needs
-
-sub-result : tie.Need-sub-result
-sub-result c = search needs
-
-add-result-3 : tie.Need-add-result-3
-add-result-3 c = search needs
+size-with-requires : tie.Need-size-with-requires
+size-with-requires c κs = search needs
 
 returns : tie.Need-returns
 returns c = (search (needs, dsid-sized), search needs)
 
 pub dsid-size-spec : {M : Type 1} → statement M
-dsid-size-spec =
-    tie.close
-    (tie.spec
-    parts-of-requires
-    fewest-digits-requires
-    add-result
-    fewest-digits-requires-2
-    add-result-2
-    sub-result
-    add-result-3
-    returns)
+dsid-size-spec = tie.close (tie.spec parts-of-requires size-with-requires returns)

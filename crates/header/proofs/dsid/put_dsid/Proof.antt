@@ -1,32 +1,42 @@
--- What stands before EDTN and behind UPDN is lent as it stands. Assumes nothing.
+-- With its own UPDN and its own dates. Assumes nothing.
 use Rattle.header.proofs.PutLaws.{dsid-room, dsid-put}
 use borrow.Author.Needs.{needs}
 use Rattle.header.proofs.dsid.put_dsid.Statement.{statement}
 use Rattle.header.proofs.dsid.put_dsid.Tie as tie
+use Rattle.header.proofs.dsid.put_dsid.Reads as reads
+use Rattle.header.proofs.dsid.put_dsid.Lts as lts
+use Rattle.header.proofs.dsid.parts_of.Reads as parts-of-reads
+use Rattle.header.proofs.dsid.put_dated.Reads as put-dated-reads
 
 parts-of-requires : tie.Need-parts-of-requires
 parts-of-requires c κs = search needs
 
-sub-put-with : tie.Need-sub-put-with
-sub-put-with c = search needs
+add-mid : tie.Need-add-mid
+add-mid c = search needs
 
-part-put-with-start : tie.Need-part-put-with-start
-part-put-with-start c = search needs
+add-to : tie.Need-add-to
+add-to c = search needs
 
-part-put-with-end : tie.Need-part-put-with-end
-part-put-with-end c = search needs
+sub-put-dated : tie.Need-sub-put-dated
+sub-put-dated c = search needs
 
-sub-put-with-2 : tie.Need-sub-put-with-2
-sub-put-with-2 c = search needs
+part-put-dated-start : tie.Need-part-put-dated-start
+part-put-dated-start c = search needs
 
-part-put-with-start-2 : tie.Need-part-put-with-start-2
-part-put-with-start-2 c = search needs
+part-put-dated-end : tie.Need-part-put-dated-end
+part-put-dated-end c = search needs
 
-part-put-with-end-2 : tie.Need-part-put-with-end-2
-part-put-with-end-2 c = search needs
+sub-put-dated-2 : tie.Need-sub-put-dated-2
+sub-put-dated-2 c = search needs
 
-put-with-requires : tie.Need-put-with-requires
-put-with-requires c κs = search (needs, dsid-room)
+part-put-dated-start-2 : tie.Need-part-put-dated-start-2
+part-put-dated-start-2 c = search needs
+
+part-put-dated-end-2 : tie.Need-part-put-dated-end-2
+part-put-dated-end-2 c = search needs
+
+put-dated-requires : tie.Need-put-dated-requires
+put-dated-requires c κs = (search needs, search (needs, dsid-room))
 
 same-length : tie.Need-same-length
 same-length c = search needs
@@ -39,12 +49,14 @@ put-dsid-spec =
     tie.close
     (tie.spec
     parts-of-requires
-    sub-put-with
-    part-put-with-start
-    part-put-with-end
-    sub-put-with-2
-    part-put-with-start-2
-    part-put-with-end-2
-    put-with-requires
+    add-mid
+    add-to
+    sub-put-dated
+    part-put-dated-start
+    part-put-dated-end
+    sub-put-dated-2
+    part-put-dated-start-2
+    part-put-dated-end-2
+    put-dated-requires
     same-length
     returns)

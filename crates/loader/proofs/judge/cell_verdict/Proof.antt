@@ -1,5 +1,6 @@
 -- Codes 4 to 8, then the topology.
 use Rattle.loader.proofs.JudgeLaws.{verdict-read, verdict-on, verdict-readable, verdict-comf, verdict-held}
+use Rattle.reader.proofs.BothLaws.{lent}
 use borrow.Author.Needs.{needs}
 use Rattle.loader.proofs.judge.cell_verdict.Statement.{statement}
 use Rattle.loader.proofs.judge.cell_verdict.Tie as tie
@@ -9,7 +10,7 @@ use Rattle.reader.proofs.fault.cell_fault.Reads as cell-fault-reads
 use Rattle.topology.proofs.topology_fault.Reads as topology-fault-reads
 
 cell-fault-requires : tie.Need-cell-fault-requires
-cell-fault-requires c κs = search needs
+cell-fault-requires c κs = search (needs, lent)
 
 same-length : tie.Need-same-length
 same-length c = search needs

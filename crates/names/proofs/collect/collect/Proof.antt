@@ -5,6 +5,7 @@ use Rattle.iso8211.specs.File.{recordAt}
 use Rattle.names.specs.Names.{wordsFrom}
 use Rattle.names.specs.Area.{Collected}
 use Rattle.names.proofs.CollectLaws.{holds-none, turn-framed, turn-laid, turn-identified, collect-place, collect-next, collect-turn, collect-done}
+use Rattle.iso8211.proofs.Promise.{framed-headed}
 use borrow.Author.Needs.{needs}
 use Rattle.names.proofs.collect.collect.Statement.{statement}
 use Rattle.names.proofs.collect.collect.Tie as tie
@@ -36,7 +37,7 @@ sub-loop : tie.Need-sub-loop Inv-loop μ-loop
 sub-loop c = search needs
 
 head-of-requires : tie.Need-head-of-requires Inv-loop μ-loop
-head-of-requires c κs = search (needs, turn-framed)
+head-of-requires c κs = search (needs, framed-headed, turn-framed)
 
 word-for-requires : tie.Need-word-for-requires Inv-loop μ-loop
 word-for-requires c κs = (search (needs, turn-laid), search needs, search (needs, turn-identified), search needs)

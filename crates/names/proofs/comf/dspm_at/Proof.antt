@@ -1,4 +1,5 @@
 -- Record 2 stands behind the first two; its second field is DSPM.
+use Rattle.iso8211.proofs.Promise.{framed-headed}
 use borrow.Author.Needs.{needs}
 use Rattle.names.proofs.ComfLaws.{comf-first, comf-second, dspm-framed, dspm-second, dspm-start, dspm-whole}
 use Rattle.names.proofs.comf.dspm_at.Statement.{statement}
@@ -11,7 +12,7 @@ record-end-requires-2 : tie.Need-record-end-requires-2
 record-end-requires-2 c κs = search (needs, comf-second)
 
 head-of-requires : tie.Need-head-of-requires
-head-of-requires c κs = search (needs, dspm-framed)
+head-of-requires c κs = search (needs, framed-headed, dspm-framed)
 
 field-at-requires : tie.Need-field-at-requires
 field-at-requires c κs = (search needs, search (needs, dspm-second))

@@ -1,4 +1,5 @@
 -- The field of record 1 and the tally, compared.
+use Rattle.iso8211.proofs.Promise.{framed-headed}
 use borrow.Author.Needs.{needs}
 use Rattle.names.proofs.CountsLaws.{first-framed, second-framed, dssi-third, dssi-whole, counts-told}
 use Rattle.names.proofs.counts.counts_good.Statement.{statement}
@@ -8,7 +9,7 @@ record-end-requires : tie.Need-record-end-requires
 record-end-requires c κs = search (needs, first-framed)
 
 head-of-requires : tie.Need-head-of-requires
-head-of-requires c κs = search (needs, second-framed)
+head-of-requires c κs = search (needs, framed-headed, second-framed)
 
 field-at-requires : tie.Need-field-at-requires
 field-at-requires c κs = (search needs, search (needs, dssi-third))

@@ -3,7 +3,7 @@ use Prim.Native.Nat.{_≤_, _-_}
 use mathlib.Core.Path.{_≡_}
 use borrow.Author.Needs.{needs}
 use Rattle.iso8211.specs.File.{recordAt}
-use Rattle.iso8211.proofs.Promise.{at-on}
+use Rattle.iso8211.proofs.Promise.{framed-headed, at-on}
 use Rattle.names.specs.Counts.{withRecords, tallyOf}
 use Rattle.names.proofs.ReadableLaws.{readable-three, readable-framed, readable-laid, readable-known}
 use Rattle.names.proofs.CountsLaws.{tally-start, tally-on, tally-end, tally-few}
@@ -20,10 +20,13 @@ loop-holds : tie.Need-loop-holds Inv-loop μ-loop
 loop-holds c = (search needs, search (needs, readable-three), search needs, search (needs, tally-start))
 
 head-of-requires : tie.Need-head-of-requires Inv-loop μ-loop
-head-of-requires c κs = search (needs, readable-framed)
+head-of-requires c κs = search (needs, framed-headed, readable-framed)
 
 add-requires : tie.Need-add-requires Inv-loop μ-loop
 add-requires c κs = (search (needs, tally-few), search (needs, readable-laid), search needs, search (needs, readable-known))
+
+record-end-requires : tie.Need-record-end-requires Inv-loop μ-loop
+record-end-requires c κs = search (needs, readable-framed)
 
 loop-again : tie.Need-loop-again Inv-loop μ-loop
 loop-again c = (search needs, search needs, search (needs, at-on), search (needs, tally-on))
@@ -41,7 +44,7 @@ tally-of-spec =
     loop-holds
     head-of-requires
     add-requires
-    (λ c κs. search needs)
+    record-end-requires
     (λ c. search needs)
     (λ c. search needs)
     loop-again

@@ -23,7 +23,7 @@ returns : tie.Need-returns
 returns c = checked-work _ _ _ _ (c .before .if1 .taken) (c .answered .ensures)
 
 cell-fault-requires : tie.Need-cell-fault-requires
-cell-fault-requires c κs = record { framed = (c .before .before .before .before .pre .framed); short = (c .before .before .before .before .pre .short); room = (c .before .if1 .left) }
+cell-fault-requires c κs = record { framed = (c .before .before .before .before .pre .framed); short = (c .before .before .before .before .pre .short); room = omega arith }
 
 filed-requires : tie.Need-filed-requires
 filed-requires c κs = search needs

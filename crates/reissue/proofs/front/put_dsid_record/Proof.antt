@@ -1,8 +1,15 @@
--- The head by the rows, then the fields. Assumes nothing.
-use Rattle.reissue.proofs.FrontLaws.{lent-known, dsid-head-room, dsid-fields-room, dsid-record-put}
+-- The opening, DSID, DSSI, one behind the other. Assumes nothing.
+use Rattle.reissue.proofs.FrontLaws.{lent-known, dsid-opening-room, dsid-named-room, dsid-counts-room, dsid-record-put}
 use borrow.Author.Needs.{needs}
 use Rattle.reissue.proofs.front.put_dsid_record.Statement.{statement}
 use Rattle.reissue.proofs.front.put_dsid_record.Tie as tie
+use Rattle.reissue.proofs.front.put_dsid_record.Reads as reads
+use Rattle.reissue.proofs.front.put_dsid_record.Lts as lts
+use Rattle.header.proofs.dsid.dsid_size.Reads as dsid-size-reads
+use Rattle.reissue.proofs.front.content.Reads as content-reads
+use Rattle.reissue.proofs.front.put_counts.Reads as put-counts-reads
+use Rattle.reissue.proofs.front.put_named.Reads as put-named-reads
+use Rattle.reissue.proofs.front.put_opening.Reads as put-opening-reads
 
 content-requires : tie.Need-content-requires
 content-requires c κs = search needs
@@ -13,17 +20,14 @@ dsid-size-requires c κs = search (needs, lent-known)
 cast-size : tie.Need-cast-size
 cast-size c = search needs
 
-dsid-rows-requires : tie.Need-dsid-rows-requires
-dsid-rows-requires c κs = search needs
+put-opening-requires : tie.Need-put-opening-requires
+put-opening-requires c κs = (search needs, search (needs, dsid-opening-room))
 
-add-put-head : tie.Need-add-put-head
-add-put-head c = search needs
+put-named-requires : tie.Need-put-named-requires
+put-named-requires c κs = (search (needs, lent-known), search (needs, dsid-named-room))
 
-put-head-requires : tie.Need-put-head-requires
-put-head-requires c κs = (search needs, (search needs, search (needs, dsid-head-room)))
-
-put-dsid-fields-requires : tie.Need-put-dsid-fields-requires
-put-dsid-fields-requires c κs = (search needs, search (needs, dsid-fields-room))
+put-counts-requires : tie.Need-put-counts-requires
+put-counts-requires c κs = (search needs, search (needs, dsid-counts-room))
 
 same-length : tie.Need-same-length
 same-length c = search needs
@@ -38,9 +42,8 @@ put-dsid-record-spec =
     content-requires
     dsid-size-requires
     cast-size
-    dsid-rows-requires
-    add-put-head
-    put-head-requires
-    put-dsid-fields-requires
+    put-opening-requires
+    put-named-requires
+    put-counts-requires
     same-length
     returns)

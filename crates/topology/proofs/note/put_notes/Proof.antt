@@ -1,6 +1,6 @@
 -- The invariant: the notes of the first i items stand behind the words, which are as they were.
 use Prim.Native.Nat.{_-_, _≤_}
-use Rattle.topology.proofs.NotesLaws.{Noting, noting-start, noting-stands, noting-room, noting-on, noting-done}
+use Rattle.topology.proofs.NotesLaws.{Filed, filed-start, filed-stands, filed-room, filed-on, filed-done}
 use borrow.Author.Needs.{needs}
 use Rattle.topology.proofs.note.put_notes.Statement.{statement}
 use Rattle.topology.proofs.note.put_notes.Tie as tie
@@ -11,25 +11,25 @@ use Rattle.words.proofs.get.Reads as get-reads
 use Rattle.words.proofs.put.Reads as put-reads
 
 abbrev Inv-loop : tie.InvT-loop
-Inv-loop s work₀ m i₀ work i = (i ≤ m) × Noting s work₀ m i work
+Inv-loop s work₀ m i₀ work i = (i ≤ m) × Filed s work₀ m i work
 
 abbrev μ-loop : tie.MeasureT-loop
 μ-loop s work₀ m i₀ work i = m - i
 
 loop-holds : tie.Need-loop-holds Inv-loop μ-loop
-loop-holds c = search (needs, noting-start)
+loop-holds c = search (needs, filed-start)
 
 get-requires : tie.Need-get-requires Inv-loop μ-loop
 get-requires c κs = search needs
 
 note-of-requires : tie.Need-note-of-requires Inv-loop μ-loop
-note-of-requires c κs = search (needs, noting-stands)
+note-of-requires c κs = search (needs, filed-stands)
 
 add-put : tie.Need-add-put Inv-loop μ-loop
 add-put c = search needs
 
 put-requires : tie.Need-put-requires Inv-loop μ-loop
-put-requires c κs = search (needs, noting-room)
+put-requires c κs = search (needs, filed-room)
 
 add-i : tie.Need-add-i Inv-loop μ-loop
 add-i c = search needs
@@ -38,13 +38,13 @@ loop-less : tie.Need-loop-less Inv-loop μ-loop
 loop-less c = search needs
 
 loop-again : tie.Need-loop-again Inv-loop μ-loop
-loop-again c = (search needs, search (needs, noting-on))
+loop-again c = (search needs, search (needs, filed-on))
 
 same-length : tie.Need-same-length Inv-loop μ-loop
 same-length c = search needs
 
 returns : tie.Need-returns Inv-loop μ-loop
-returns c = search (needs, noting-done)
+returns c = search (needs, filed-done)
 
 pub put-notes-spec : {M : Type 1} → statement M
 put-notes-spec =

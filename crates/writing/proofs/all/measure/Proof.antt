@@ -12,7 +12,7 @@ use Rattle.writing.proofs.all.measure.Tie as tie
 
 abbrev Inv-loop : tie.InvT-loop
 Inv-loop s m work sum₀ most₀ k₀ sum most k =
-    (k ≤ m) × (sum ≤ k * 500000)
+    (k ≤ m) × (sum ≤ k * 1300000)
     × (length (writtenFrom 3 s (wordsIn work 0 m)) ≡ sum + length (writtenFrom (k + 3) s (drop k (wordsIn work 0 m))))
     × (mostOf 3 s (wordsIn work 0 m) ≡ max most (mostOf (k + 3) s (drop k (wordsIn work 0 m))))
 

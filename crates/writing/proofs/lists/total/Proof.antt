@@ -10,7 +10,7 @@ use Rattle.writing.proofs.lists.total.Statement.{statement}
 use Rattle.writing.proofs.lists.total.Tie as tie
 
 abbrev Inv-loop : tie.InvT-loop
-Inv-loop s at h k fields n₀ j₀ n j = (j ≤ countAt s at) × (n ≤ 99999) × (length (listAt s at k) ≡ n + length (joinFrom (countAt s at - j) s at k j))
+Inv-loop s at h k fields n₀ j₀ n j = (j ≤ countAt s at) × (n ≤ 300000) × (length (listAt s at k) ≡ n + length (joinFrom (countAt s at - j) s at k j))
 
 abbrev μ-loop : tie.MeasureT-loop
 μ-loop s at h k fields n₀ j₀ n j = countAt s at - j

@@ -1,0 +1,70 @@
+use borrow.Author.Needs.{needs}
+use Rattle.amend.proofs.ControlLaws.{control-room, control-none, control-some, control-given}
+use Rattle.amend.proofs.control.control_of.Statement.{statement}
+use Rattle.amend.proofs.control.control_of.Tie as tie
+use Rattle.amend.proofs.control.control_of.Reads as reads
+use Rattle.amend.proofs.control.control_of.Lts as lts
+use Rattle.amend.proofs.control.no_control.Reads as no-control-reads
+use Rattle.octets.proofs.number.get1.Reads as get1-reads
+use Rattle.octets.proofs.number.get2.Reads as get2-reads
+use Rattle.writing.proofs.lists.put_list.Reads as put-list-reads
+
+-- src/control.rt:36:9
+put-list-requires : tie.Need-put-list-requires
+put-list-requires c κs = (search needs, search needs, search (needs, control-room))
+
+-- src/control.rt:38:9
+no-control-requires : tie.Need-no-control-requires
+no-control-requires c κs = search needs
+
+-- src/control.rt:38:9
+same-length : tie.Need-same-length
+same-length c = search needs
+
+-- src/control.rt:38:9
+returns : tie.Need-returns
+returns c = (search (needs, control-none), search needs)
+
+-- src/control.rt:42:22
+get1-requires : tie.Need-get1-requires
+get1-requires c κs = search needs
+
+-- src/control.rt:43:16
+get2-requires : tie.Need-get2-requires
+get2-requires c κs = search needs
+
+-- src/control.rt:43:16
+cast-t16 : tie.Need-cast-t16
+cast-t16 c = search needs
+
+-- src/control.rt:44:16
+get2-requires-2 : tie.Need-get2-requires-2
+get2-requires-2 c κs = search needs
+
+-- src/control.rt:44:16
+cast-t20 : tie.Need-cast-t20
+cast-t20 c = search needs
+
+-- src/control.rt:32:1
+same-length-2 : tie.Need-same-length-2
+same-length-2 c = search needs
+
+-- src/control.rt:32:1
+returns-2 : tie.Need-returns-2
+returns-2 c = (search (needs, control-some), search (needs, control-given))
+
+pub control-of-spec : {M : Type 1} → statement M
+control-of-spec =
+    tie.close
+    (tie.spec
+    put-list-requires
+    no-control-requires
+    same-length
+    returns
+    get1-requires
+    get2-requires
+    cast-t16
+    get2-requires-2
+    cast-t20
+    same-length-2
+    returns-2)

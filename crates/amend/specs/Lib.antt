@@ -1,0 +1,5 @@
+-- The notions of `amend`.
+pub mod Controls
+pub mod Sides
+pub mod Pairs
+pub mod Record

@@ -1,0 +1,3 @@
+-- The notions of `amendments`.
+pub mod Brought
+pub mod Amendable

@@ -1,0 +1,63 @@
+-- Demand 2 of what an update makes of a chart. `updated-good`: the result of an allowed file may be held. `updated-once`: it has the name and the edition that were,
+-- and the file's number, one more than the chart's, so that the file doesn't follow it again. `named-done`, `unnamed-kept`: each record of the file is done, and what
+-- none names stays. Assumes nothing.
+use Prim.Native.Nat.{ℕ, _+_}
+use mathlib.Core.List.{List}
+use mathlib.Core.Path.{_≡_}
+use Rattle.held.specs.Chart.{Chart, objectName}
+use Rattle.held.specs.Good.{GoodChart}
+use Rattle.merge.specs.Update.{unnamed}
+use Rattle.merge.specs.Updated.{Differs}
+use Rattle.changes.specs.Change.{Amendment, Change}
+use Rattle.changes.specs.Follow.{chartName, followCode}
+use Rattle.changes.specs.Amend.{heldBy, changeFault}
+use Rattle.changes.specs.Updated.{byAmendment}
+use Rattle.changes.specs.Rules.{All, Done}
+use Rattle.changes.specs.Good.{GoodChange}
+use Rattle.changes.proofs.RulesLaws.{acceptable-tested}
+use Rattle.changes.proofs.GoodLaws as good
+use Rattle.changes.proofs.FollowLaws as follow
+use Rattle.changes.proofs.FollowLaws.{follows-tested}
+use Rattle.changes.proofs.KeptLaws as kept
+use Rattle.demands.specs.Verdict.{Good}
+use Rattle.demands.specs.Cell.{Bytes}
+use Rattle.demands.specs.Update.{fileChange, updatedBy, Allowed}
+use Rattle.demands.proofs.FileLaws.{change-good}
+use Rattle.demands.proofs.SoundLaws.{sound-tested}
+
+-- ---- `updated-good`
+pub updated-good : (c : Chart) (file : List ℕ) → Bytes file → GoodChart c → Allowed c file → Good (updatedBy c file)
+updated-good c file bytes g a =
+    let v = change-good file bytes (a .reads) in
+    let e = acceptable-tested (a .rules) in
+    record { values = good.updated-good g v e; topology = sound-tested (updatedBy c file) (a .result); limits = a .limits }
+
+-- ---- `updated-once`
+pub record Once (c : Chart) (file : List ℕ) : Type 0 where
+  pub name : chartName (updatedBy c file .header .dsid) ≡ chartName (c .header .dsid)
+  pub edition : updatedBy c file .header .dsid .edition ≡ c .header .dsid .edition
+  pub number : updatedBy c file .header .dsid .number ≡ fileChange file .dsid .number
+  pub next : updatedBy c file .header .dsid .number ≡ c .header .dsid .number + 1
+  pub not-again : followCode (updatedBy c file .header) (fileChange file) ≡ 11
+
+pub updated-once : (c : Chart) (file : List ℕ) → Allowed c file → Once c file
+unfolding chartName
+updated-once c file a =
+    let u = fileChange file in
+    let h = follow.updated-once c u in
+    let e = follows-tested (a .rules .header) in
+    record { name = rw (h .name); edition = h .edition; number = h .number; next = follow.updated-next c u e; not-again = follow.followed-once c u e }
+
+-- ---- `named-done`, `unnamed-kept`
+pub named-done : (c : Chart) (file : List ℕ) → Bytes file → Allowed c file → All (Done (c .objects) (updatedBy c file .objects)) (fileChange file .amendments)
+named-done c file bytes a = kept.named-done c (change-good file bytes (a .reads)) (acceptable-tested (a .rules))
+
+-- the objects that no record of the file names, in their order; there is nothing else that none names
+pub unnamed-kept : (c : Chart) (file : List ℕ)
+    → unnamed byAmendment (fileChange file .amendments) (updatedBy c file .objects) ≡ unnamed byAmendment (fileChange file .amendments) (c .objects)
+unnamed-kept c file = kept.unnamed-kept c (fileChange file)
+
+-- what is held under a name that no record of the file has
+pub other-kept : (c : Chart) (file : List ℕ) (n : ℕ) → Differs (λ (a : Amendment). objectName (a .object)) n (fileChange file .amendments)
+    → heldBy (updatedBy c file .objects) n ≡ heldBy (c .objects) n
+other-kept c file n d = kept.other-kept c (fileChange file) n d

@@ -1,0 +1,2 @@
+-- The notions of `follow`.
+pub mod Headed

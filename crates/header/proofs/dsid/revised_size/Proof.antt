@@ -1,0 +1,21 @@
+-- With the update's UPDN. Assumes nothing.
+use Rattle.header.proofs.PutLaws.{revised-sized}
+use borrow.Author.Needs.{needs}
+use Rattle.header.proofs.dsid.revised_size.Statement.{statement}
+use Rattle.header.proofs.dsid.revised_size.Tie as tie
+use Rattle.header.proofs.dsid.revised_size.Reads as reads
+use Rattle.header.proofs.dsid.revised_size.Lts as lts
+use Rattle.header.proofs.dsid.parts_of.Reads as parts-of-reads
+use Rattle.header.proofs.dsid.size_with.Reads as size-with-reads
+
+parts-of-requires : tie.Need-parts-of-requires
+parts-of-requires c κs = search needs
+
+size-with-requires : tie.Need-size-with-requires
+size-with-requires c κs = search needs
+
+returns : tie.Need-returns
+returns c = (search (needs, revised-sized), search needs)
+
+pub revised-size-spec : {M : Type 1} → statement M
+revised-size-spec = tie.close (tie.spec parts-of-requires size-with-requires returns)

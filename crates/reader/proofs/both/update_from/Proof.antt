@@ -1,0 +1,54 @@
+-- The part is lent, so that what stands before it stays.
+use Rattle.reader.proofs.BothLaws.{update-placed, part-front}
+use borrow.Author.Needs.{needs}
+use Rattle.reader.proofs.both.update_from.Statement.{statement}
+use Rattle.reader.proofs.both.update_from.Tie as tie
+use Rattle.reader.proofs.both.update_from.Reads as reads
+use Rattle.reader.proofs.both.update_from.Lts as lts
+use Rattle.reader.proofs.fault.update_fault.Reads as update-fault-reads
+
+-- src/both.rt:44:16
+mul-from : tie.Need-mul-from
+mul-from c = search needs
+
+-- src/both.rt:45:24
+sub-update-fault : tie.Need-sub-update-fault
+sub-update-fault c = search needs
+
+-- src/both.rt:45:24
+part-update-fault-start : tie.Need-part-update-fault-start
+part-update-fault-start c = search needs
+
+-- src/both.rt:45:24
+part-update-fault-end : tie.Need-part-update-fault-end
+part-update-fault-end c = search needs
+
+-- src/both.rt:45:5
+update-fault-requires : tie.Need-update-fault-requires
+update-fault-requires c κs = search needs
+
+-- src/both.rt:38:1
+same-length : tie.Need-same-length
+same-length c = search needs
+
+-- src/both.rt:38:1
+returns : tie.Need-returns
+returns c = (
+  search needs,
+  (
+    (λ z. update-placed _ _ _ _ (c .before .before .before .before .before .before .pre .1) (c .before .before .update-fault .kept .1 .1 .0) _ ((c .before .before .update-fault .ensures .1) z)),
+    part-front _ (c .before .before .update-fault .last .1 .1 .0) _ _ (c .before .before .before .before .before .before .pre .1) (c .before .before .update-fault .kept .1 .1 .0),
+  ),
+)
+
+pub update-from-spec : {M : Type 1} → statement M
+update-from-spec =
+    tie.close
+    (tie.spec
+    mul-from
+    sub-update-fault
+    part-update-fault-start
+    part-update-fault-end
+    update-fault-requires
+    same-length
+    returns)

@@ -1,0 +1,102 @@
+// The result whole: how long its held form is and whether it keeps its limits, decided before a byte
+// is written, and its bytes.
+ghost use Prim.Native.Nat.{_≤_};
+ghost use lib.ListN.{length};
+ghost use Rattle.octets.specs.Area.{Wrote};
+ghost use Rattle.held.specs.Held.{heldOf};
+ghost use Rattle.reissue.specs.Plan.{Planned};
+ghost use Rattle.result.specs.Able.{Rooms};
+ghost use Rattle.renewal.specs.Items.{objectsIn};
+ghost use Rattle.renewal.specs.Renewed.{renewed, frontOf, Renewing};
+use crate::all::measure;
+use crate::all::put_items;
+use crate::front::front_sizes;
+use crate::front::fronts_of;
+use crate::front::put_front;
+use crate::tally::tally_items;
+use records::head::larger;
+use reissue::plan::Plan;
+use reissue::plan::within_limits;
+
+// The plan of a result of `count` items.
+pub fn planned(
+    cell: &[u8],
+    update: &[u8],
+    work: &[u8],
+    end: usize,
+    count: usize,
+    edits: usize,
+    join: &mut [u8],
+    table: &mut [u32],
+    room: &mut [u8],
+) -> Plan
+    requires { ⌜ Renewing (now cell) (now update) (now work) end count edits × Rooms (now join) (now table) (now room) ⌝ }
+    ensures { λ r. ⌜ Planned (renewed (now (cell .entry)) (now (update .entry))
+        (objectsIn (now (cell .entry)) (now (update .entry)) (now (work .entry)) end count edits)) r ⌝ }
+    ensures { λ _. ⌜ Rooms (now (join .exit)) (now (table .exit)) (now (room .exit)) ⌝ }
+{
+    let records = 3 + count;
+    let front = front_sizes(cell, update);
+    let items = measure(cell, update, work, end, count, edits, join, table, room);
+    let most = larger(front.most, items.most);
+    let total = front.sum + items.sum;
+    Plan {
+        fits: within_limits(records, most, total),
+        total,
+    }
+}
+
+// Records 0 to 2 of the result, into the front of an area that has room for them.
+fn put_fore(
+    cell: &[u8],
+    update: &[u8],
+    work: &[u8],
+    end: usize,
+    count: usize,
+    edits: usize,
+    out: &mut [u8],
+) -> usize
+    requires { ⌜ Renewing (now cell) (now update) (now work) end count edits
+        × (length (frontOf (now cell) (now update) (objectsIn (now cell) (now update) (now work) end count edits)) ≤ length (now out)) ⌝ }
+    ensures { λ r. ⌜ Wrote (now (out .entry)) 0 (frontOf (now (cell .entry)) (now (update .entry))
+        (objectsIn (now (cell .entry)) (now (update .entry)) (now (work .entry)) end count edits)) (now (out .exit)) r ⌝ }
+{
+    let counts = tally_items(cell, update, work, end, count, edits);
+    let f = fronts_of(cell, update);
+    put_front(cell, update, f, counts, out)
+}
+
+// The held form of the result, into the front of an area that has room for it.
+pub fn put_result(
+    cell: &[u8],
+    update: &[u8],
+    work: &[u8],
+    end: usize,
+    count: usize,
+    edits: usize,
+    join: &mut [u8],
+    table: &mut [u32],
+    room: &mut [u8],
+    out: &mut [u8],
+) -> usize
+    requires { ⌜ Renewing (now cell) (now update) (now work) end count edits × Rooms (now join) (now table) (now room)
+        × (length (heldOf (renewed (now cell) (now update) (objectsIn (now cell) (now update) (now work) end count edits))) ≤ length (now out)) ⌝ }
+    ensures { λ r. ⌜ Wrote (now (out .entry)) 0 (heldOf (renewed (now (cell .entry)) (now (update .entry))
+        (objectsIn (now (cell .entry)) (now (update .entry)) (now (work .entry)) end count edits))) (now (out .exit)) r ⌝ }
+    ensures { λ _. ⌜ Rooms (now (join .exit)) (now (table .exit)) (now (room .exit)) ⌝ }
+{
+    let next = put_fore(cell, update, work, end, count, edits, out);
+    put_items(
+        cell,
+        update,
+        work,
+        end,
+        count,
+        edits,
+        join,
+        table,
+        room,
+        out,
+        next,
+    )
+}

@@ -1,0 +1,73 @@
+-- Laws of the walk that judges every item, and of the verdict on all. Assumes nothing.
+use Prim.Native.Nat.{ℕ, _+_, _≤_, _<_}
+use mathlib.Core.Bool.{cond}
+use mathlib.Core.List.{List, [], _∷_}
+use mathlib.Core.Path.{_≡_, refl, sym, ap, _∙_}
+use native.Mathlib.Nat.{add-zero}
+use native.Mathlib.Omega.{arith}
+use lib.Dec.{eqb}
+use borrow.Author.Tests.{ne-eqb}
+use Rattle.words.specs.Words.{wordsIn}
+use Rattle.chart.specs.Read.{refusal}
+use Rattle.chart.specs.declared.read.Refusal.{Refusal}
+use Rattle.items.specs.Item.{Item}
+use Rattle.topology.specs.Topology.{faultFrom, topologyOf}
+use Rattle.topology.specs.Notes.{notesFor, notedCode, Beside, Prepared}
+use Rattle.topology.proofs.ReachLaws.{code-noted}
+use Rattle.merge.specs.Places.{placesFrom, placesOf, Headed}
+use Rattle.merge.specs.declared.walk.At.{At}
+use Rattle.merge.proofs.PlacesLaws.{places-start, places-end}
+use Rattle.verdict.specs.Verdict.{objectItem, objectItems}
+use Rattle.result.specs.Result.{objectOf, itemsBy, resultItems}
+use Rattle.result.specs.Able.{Able, AllAble, Laid}
+use Rattle.result.proofs.PlacesLaws.{beside-all, beside-laid, laid-worded, walk-able, walk-rest}
+
+-- the first i items, of which j are changed, have no code: the refusal is that of the rest
+pub record Judged (code : Item → ℕ) (cell update work : List ℕ) (end count edits i j : ℕ) : Type 0 where
+  pub is : faultFrom code 3 (resultItems cell update work end count edits) ≡ faultFrom code (3 + i) (itemsBy cell update (placesFrom work end count edits i j))
+  pub able : AllAble cell update (placesFrom work end count edits i j)
+  pub left : j ≤ edits
+
+pub judged-start : (code : Item → ℕ) {cell update work : List ℕ} {end count edits : ℕ} → Laid cell update work end count edits → Judged code cell update work end count edits 0 0
+judged-start code {cell} {update} {work} {end} {count} {edits} laid = record {
+  is = rw (places-start work end count edits);
+  able = rw (places-start work end count edits) (laid .able);
+  left = omega arith;
+}
+
+module _ {code : Item → ℕ} {cell update work : List ℕ} {end count edits i j : ℕ} (judged : Judged code cell update work end count edits i j) {p : At} (head : Headed work end count edits i j p) where
+  pub judged-able : Able cell update p
+  judged-able = walk-able head (judged .able)
+
+  turn : faultFrom code 3 (resultItems cell update work end count edits)
+      ≡ cond (eqb (code (objectItem (objectOf cell update p))) 0) (faultFrom code (3 + i + 1) (itemsBy cell update (placesFrom work end count edits (i + 1) (j + p .change))))
+      (refusal (code (objectItem (objectOf cell update p))) (3 + i) 0)
+  unfolding objectItems faultFrom
+  turn = judged .is ∙ rw (head .is)
+
+  module _ (c : ℕ) (told : c ≡ code (objectItem (objectOf cell update p))) where
+    pub judged-found : (r : Refusal) → (c ≡ 0 → ⊥) → r ≡ refusal c (3 + i) 0 → r ≡ faultFrom code 3 (resultItems cell update work end count edits)
+    judged-found r ne e = e ∙ sym (turn ∙ rw (← told, ne-eqb c 0 ne))
+
+    pub judged-on : c ≡ 0 → Judged code cell update work end count edits (i + 1) (j + p .change)
+    judged-on e =
+        let three : 3 + i + 1 ≡ 3 + (i + 1) = omega arith in
+        record { is = turn ∙ rw (← told, e, three); able = walk-rest head (judged .able); left = head .left }
+
+pub judged-done : {code : Item → ℕ} {cell update work : List ℕ} {end count edits i j : ℕ} → Judged code cell update work end count edits i j → count ≤ i
+    → (r : Refusal) → r ≡ refusal 0 0 0 → r ≡ faultFrom code 3 (resultItems cell update work end count edits)
+unfolding objectItems faultFrom
+judged-done {code} {cell} {update} {work} {end} {count} {edits} {i} {j} judged high r e = e ∙ sym (judged .is ∙ rw (places-end work end count edits i j high))
+
+-- ---- the whole: c has the words of a, and their notes
+module _ {cell update a : List ℕ} {end count edits : ℕ} (laid : Laid cell update a end count edits) {c : List ℕ} (beside : Beside a count c) where
+  pub result-laid : Laid cell update c end count edits
+  result-laid = beside-laid end count edits beside (laid .notes) laid
+
+  pub result-places : placesOf c end count edits ≡ placesOf a end count edits
+  result-places = beside-all end count edits beside (laid .notes)
+
+  pub result-topology : {v : ℕ} → Prepared (notesFor (resultItems cell update a end count edits)) (wordsIn a 0 count) count c v → (comf : ℕ) (r : Refusal)
+      → r ≡ faultFrom (notedCode comf c count v) 3 (resultItems cell update c end count edits) → r ≡ topologyOf comf (resultItems cell update a end count edits)
+  unfolding topologyOf
+  result-topology so comf r e = let code = code-noted (laid-worded laid) (laid .order) so comf in e ∙ rw (← code, result-places)

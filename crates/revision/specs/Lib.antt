@@ -1,0 +1,2 @@
+-- The notions of `revision`.
+pub mod Following

@@ -1,0 +1,2 @@
+-- Laws of `verdict`.
+pub mod AlikeLaws

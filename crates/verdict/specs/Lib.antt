@@ -1,0 +1,2 @@
+-- The notions of `verdict`.
+pub mod Verdict

@@ -1,0 +1,56 @@
+#!/bin/bash
+# Builds the example hosts and looks at what they say of the sample cell and of broken copies of it, and at their exit status; then at what unit leaves in its
+# folder, where it takes a base and where it is offered updates: after refusals, on a full disk, and cut off by force at random moments and before each of
+# its steps. The last line is 'N passed, M failed'; the status is 0 only where nothing failed. Wants what host/Makefile wants, and on Debian installs
+# make where it is missing.
+set -u
+if ! cd "$(dirname "$0")/.." || ! . bench/count.sh || ! . bench/compiler.sh; then
+    echo '0 passed, 1 failed'
+    exit 1
+fi
+if ! need make make || ! make -s -C host; then
+    fault 'make -C host built no examples'
+    close
+fi
+copies=$(mktemp -d) || { fault 'no temporary folder'; close; }
+trap 'umount "$copies/disk" 2>/dev/null; rm -rf "$copies"' EXIT
+mkfifo "$copies/never"
+exec 9<>"$copies/never"
+# shellcheck source=testing.sh
+. host/testing.sh
+
+# ---- judge
+
+head -c 8000 samples/harbour.000 >"$copies/cut.000"
+: >"$copies/empty.000"
+head -c 5242881 /dev/zero >"$copies/long.000"
+changed value.000 1631 '\000'   # the RCID in DSID is 0
+changed pointer.000 3502 '\143' # the first edge begins at node 99
+changed ring.000 5017 '\002'    # the first area's first edge runs backwards
+grown many.000 1814 67 65500 1729 # more records than a re-issue may have: the first node; NOIN
+
+says 0 'samples/harbour.000: The chart is good. (code 0, file 0, record 0)' $judge samples/harbour.000
+says 1 "$(refusal "$copies/cut.000" 2 1 62)" $judge "$copies/cut.000"
+says 1 "$(refusal "$copies/empty.000" 2 1 0)" $judge "$copies/empty.000"
+says 1 "$(refusal "$copies/long.000" 1 1 0)" $judge "$copies/long.000"
+says 1 "$(refusal "$copies/value.000" 6 1 1)" $judge "$copies/value.000"
+says 1 "$(refusal "$copies/pointer.000" 18 1 23)" $judge "$copies/pointer.000"
+says 1 "$(refusal "$copies/ring.000" 19 1 38)" $judge "$copies/ring.000"
+says 0 "$copies/many.000: The chart is good. (code 0, file 0, record 0)" $judge "$copies/many.000"
+says 2 "judge: $copies/none.000 can't be read" $judge "$copies/none.000"
+says 2 'usage: judge CELL' $judge
+
+# ---- the sentences: those of docs/CODES.md, word for word, also of codes that no test here meets
+
+tr -d '\n' <host/common.c | sed 's/" *"//g' >"$copies/sentences"
+for code in {1..21}; do
+    check "host/common.c doesn't say what docs/CODES.md has for $code" grep -qF "\"$(sentence "$code")\"" "$copies/sentences"
+done
+
+# ---- unit
+
+# shellcheck source=tests_admit.sh
+. host/tests_admit.sh
+# shellcheck source=tests_offer.sh
+. host/tests_offer.sh
+close
