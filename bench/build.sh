@@ -32,6 +32,7 @@ compare_apply loader
 boundary_judge loader
 boundary_admit loader
 boundary_apply loader
+offers loader
 speed_frame probe
 speed_read probe
 speed_judge loader
