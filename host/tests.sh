@@ -1,8 +1,8 @@
 #!/bin/bash
 # Builds the example hosts and looks at what they say of the sample cell and of broken copies of it, and at their exit status; then at what unit leaves in its
 # folder, where it takes a base and where it is offered updates: after refusals, on a full disk, and cut off by force at random moments and before each of
-# its steps. The last line is 'N passed, M failed'; the status is 0 only where nothing failed. Wants what host/Makefile wants, and on Debian installs
-# make where it is missing.
+# its steps; and at two folders that are offered files at random. The last line is 'N passed, M failed'; the status is 0 only where nothing failed. Wants what
+# host/Makefile wants, and on Debian installs make where it is missing.
 set -u
 if ! cd "$(dirname "$0")/.." || ! . bench/count.sh || ! . bench/compiler.sh; then
     echo '0 passed, 1 failed'
@@ -53,4 +53,6 @@ done
 . host/tests_admit.sh
 # shellcheck source=tests_offer.sh
 . host/tests_offer.sh
+# shellcheck source=tests_random.sh
+. host/tests_random.sh
 close
