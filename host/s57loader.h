@@ -4,8 +4,8 @@
 
    It allocates nothing, keeps no state between calls, and opens no file: it works in the bytes that the host lends it. So it may be called from
    several threads at once, each with areas of its own; several may judge the same cell's bytes. On the stack s57_judge and s57_admit want about 270 KB,
-   nearly all of it one table of fixed size; s57_apply wants more, since it builds each changed record in an area of 200 KB there. A thread with a small
-   stack of its own needs that much and some to spare. */
+   nearly all of it one table of fixed size; s57_apply wants about 940 KB, which are areas of fixed size too: in some of them it builds each record that the
+   update changes. A thread with a small stack of its own needs that much and some to spare. */
 #ifndef S57LOADER_H
 #define S57LOADER_H
 
