@@ -1,0 +1,3 @@
+-- What demand 3 speaks of, in the order in which a reader should meet it.
+pub mod Unit
+pub mod Reissue
