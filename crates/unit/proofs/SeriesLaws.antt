@@ -16,9 +16,10 @@ use Rattle.demands.proofs.Whole.{whole-updated}
 use Rattle.unit.specs.Reissue.{chartNumber, numberOf, UpdateOf, OneEach, worked, Series, numbersAfter}
 use Rattle.unit.specs.Reissue.Series.{ended, next}
 
--- ---- an allowed file: whose update it is, and its number
-pub allowed-own : (c : Chart) (file : List ℕ) → Allowed c file → UpdateOf c file
-allowed-own c file a = record { reads = a .reads; name = a .rules .header .name; edition = a .rules .header .edition }
+-- ---- an allowed file: it is an update of the base, if name and edition are the base's; and its number
+pub of-base : (base c : Chart) (u : List ℕ) → chartName (c .header .dsid) ≡ chartName (base .header .dsid) → c .header .dsid .edition ≡ base .header .dsid .edition
+    → Allowed c u → UpdateOf base u
+of-base base c u n e a = record { reads = a .reads; name = a .rules .header .name ∙ n; edition = a .rules .header .edition ∙ e }
 
 pub allowed-next : (c : Chart) (file : List ℕ) → Allowed c file → numberOf file ≡ chartNumber c + 1
 unfolding numberOf
@@ -65,17 +66,13 @@ module _ {Offered : List ℕ → Type 0} where
 
   -- ---- with one file to a number there is one series to a length, and it has every update
   module _ (base : Chart) (one : OneEach Offered base) where
-    of-base : (c : Chart) (u : List ℕ) → chartName (c .header .dsid) ≡ chartName (base .header .dsid) → c .header .dsid .edition ≡ base .header .dsid .edition
-        → Allowed c u → UpdateOf base u
-    of-base c u n e a = let own = allowed-own c u a in record { reads = own .reads; name = own .name ∙ n; edition = own .edition ∙ e }
-
     pub series-same : {c : Chart} {us vs : List (List ℕ)} → chartName (c .header .dsid) ≡ chartName (base .header .dsid)
         → c .header .dsid .edition ≡ base .header .dsid .edition → Series Offered c us → Series Offered c vs → length us ≡ length vs → us ≡ vs
     series-same n e ended ended h = refl
     series-same n e ended (next o a s) h = absurd (omega arith)
     series-same n e (next o a s) ended h = absurd (omega arith)
     series-same n e (next {c = c} {file = u} {files = us} o a s) (next {file = v} {files = vs} p b t) h =
-        let first : u ≡ v = one .same u v o p (of-base c u n e a) (of-base c v n e b) (allowed-next c u a ∙ sym (allowed-next c v b)) in
+        let first : u ≡ v = one .same u v o p (of-base base c u n e a) (of-base base c v n e b) (allowed-next c u a ∙ sym (allowed-next c v b)) in
         let t′ : Series Offered (updatedBy c u) vs = rw first t in
         let kept = updated-once c u a in
         let rest : us ≡ vs = series-same (kept .name ∙ n) (kept .edition ∙ e) s t′ (omega arith) in
@@ -87,7 +84,7 @@ module _ {Offered : List ℕ → Type 0} where
     series-every n e ended file p own low high = absurd (omega arith)
     series-every n e (next {c = c} {file = u} {files = us} o a s) file p own low high =
         ⊎-elim (λ (h : numberOf file ≡ chartNumber c + 1).
-        List·Memᴰ·head (one .same file u p o own (of-base c u n e a) (h ∙ sym (allowed-next c u a))))
+        List·Memᴰ·head (one .same file u p o own (of-base base c u n e a) (h ∙ sym (allowed-next c u a))))
         (λ (h : numberOf file ≡ chartNumber c + 1 → ⊥).
         let kept = updated-once c u a in
         let more = kept .next in

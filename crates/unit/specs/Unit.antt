@@ -33,9 +33,12 @@ unfoldable pub after : List ℕ → List Offer → List ℕ
 after cell [] = cell
 after cell (o ∷ os) = after (offered cell o) os
 
--- a file of these offers
-unfoldable pub In : List Offer → List ℕ → Type 0
-In os file = List·Memᴰ file (map (λ (o : Offer). o .file) os)
+-- the files of these offers, and one of them
+abbrev pub filesOf : List Offer → List (List ℕ)
+filesOf os = map (λ (o : Offer). o .file) os
+
+abbrev pub In : List Offer → List ℕ → Type 0
+In os file = List·Memᴰ file (filesOf os)
 
 -- ---- a unit of this base, at each moment of its life; `Offered` are the files offered to any unit
 -- "A unit in demand 3 is the bytes an accepted Admit wrote (as many as Number says), replaced at each offered file by those Apply on them wrote if it gave 0,
