@@ -1,7 +1,7 @@
 -- Demand 2 in the form in which a unit takes it: what a call wrote, why Apply could, and that an offer replaces or keeps. Assumes nothing.
 use Prim.Native.Nat.{ℕ}
 use mathlib.Core.List.{List}
-use mathlib.Core.Path.{_≡_, refl, ap, ap₂, _∙_}
+use mathlib.Core.Path.{_≡_, ap, ap₂, _∙_}
 use lib.ListN.{length, take, drop}
 use lib.Seq.{take-append-seam}
 use borrow.Author.Tests.{eq-eqb, ne-eqb}
@@ -23,7 +23,8 @@ admit-wrote cell w area h =
     let held = heldOf (cellChart cell) in
     ap₂ take (ap (λ (x : Answer). x .number) (t .answered)) (t .area) ∙ take-append-seam held (drop (length held) area)
 
-pub apply-wrote : (cell file : List ℕ) (w : ℕ) (area : List ℕ) → applyOf cell file w (length area) .code ≡ 0 → applyWrote cell file w area ≡ heldOf (updatedBy (cellChart cell) file)
+pub apply-wrote : (cell file : List ℕ) (w : ℕ) (area : List ℕ) → applyOf cell file w (length area) .code ≡ 0
+    → applyWrote cell file w area ≡ heldOf (updatedBy (cellChart cell) file)
 unfolding applyWrote
 apply-wrote cell file w area h =
     let t = apply-writes cell file w area h in

@@ -10,7 +10,7 @@ use Rattle.changes.specs.Follow.{chartName}
 use Rattle.demands.specs.Cell.{Bytes, cellChart}
 use Rattle.demands.specs.Update.{updatedBy}
 use Rattle.demands.proofs.Updated.{updated-once}
-use Rattle.unit.specs.Unit.{UnitOf}
+use Rattle.unit.specs.Unit.{BytesEach, UnitOf}
 use Rattle.unit.specs.Reissue.{chartNumber, shown, OneEach, worked, Series, Reissue}
 use Rattle.unit.specs.Reissue.Series.{ended, next}
 use Rattle.unit.specs.Library.{reissueAt, Shelved}
@@ -37,7 +37,7 @@ module _ {Offered : List ℕ → Type 0} {library : ℕ → List ℕ} {base : Ch
       r .bytes ∙ ap heldOf (series-library refl refl (r .series)) ∙ ap (λ (m : ℕ). heldOf (reissueAt library base m)) k
 
 -- ---- one equation: the unit's bytes by its number
-pub unit-is : {Offered : List ℕ → Type 0} {library : ℕ → List ℕ} {base cell : List ℕ} → Bytes base → ((file : List ℕ) → Offered file → Bytes file)
+pub unit-is : {Offered : List ℕ → Type 0} {library : ℕ → List ℕ} {base cell : List ℕ} → Bytes base → BytesEach Offered
     → Shelved Offered library (cellChart base) → UnitOf Offered base cell → cell ≡ heldOf (reissueAt library (cellChart base) (shown cell - shown base))
 unfolding shown
 unit-is b octets has u = reissue-is has (unit-shows b octets (library-one has) u)

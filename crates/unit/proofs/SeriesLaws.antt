@@ -8,11 +8,11 @@ use lib.ListN.{length}
 use Rattle.octets.proofs.Cases.{eq-or-ne}
 use Rattle.held.specs.Chart.{Chart}
 use Rattle.changes.specs.Follow.{chartName}
-use Rattle.demands.specs.Cell.{Bytes}
 use Rattle.demands.specs.Update.{updatedBy, Allowed}
 use Rattle.demands.specs.ByteChart.{Whole}
 use Rattle.demands.proofs.Updated.{updated-once}
 use Rattle.demands.proofs.Whole.{whole-updated}
+use Rattle.unit.specs.Unit.{BytesEach}
 use Rattle.unit.specs.Reissue.{chartNumber, numberOf, UpdateOf, OneEach, worked, Series, numbersAfter}
 use Rattle.unit.specs.Reissue.Series.{ended, next}
 
@@ -48,7 +48,7 @@ module _ {Offered : List ℕ → Type 0} where
   worked-edition ended = refl
   worked-edition (next {c = c} {file = u} o a s) = worked-edition s ∙ updated-once c u a .edition
 
-  pub worked-whole : ((file : List ℕ) → Offered file → Bytes file) → {c : Chart} {us : List (List ℕ)} → Whole c → Series Offered c us → Whole (worked c us)
+  pub worked-whole : BytesEach Offered → {c : Chart} {us : List (List ℕ)} → Whole c → Series Offered c us → Whole (worked c us)
   unfolding worked
   worked-whole octets g ended = g
   worked-whole octets g (next {c = c} {file = u} o a s) = worked-whole octets (whole-updated c u (octets u o) g a) s

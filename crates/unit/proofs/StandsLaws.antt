@@ -14,7 +14,7 @@ use Rattle.demands.specs.Cell.{Bytes, Readable, cellChart}
 use Rattle.demands.specs.Update.{updatedBy, Allowed}
 use Rattle.demands.specs.ByteChart.{Whole}
 use Rattle.demands.proofs.Whole.{whole-back, whole-admitted}
-use Rattle.unit.specs.Unit.{admitWrote, Offer, offered, UnitOf}
+use Rattle.unit.specs.Unit.{admitWrote, Offer, offered, BytesEach, UnitOf}
 use Rattle.unit.specs.Unit.UnitOf.{begun, given, again}
 use Rattle.unit.specs.Reissue.{chartNumber, shown, worked, Series}
 use Rattle.unit.specs.Reissue.Series.{ended, next}
@@ -27,7 +27,7 @@ pub record Stands (Offered : List ℕ → Type 0) (base : Chart) (cell : List �
   pub series : Series Offered base updates
   pub bytes : cell ≡ heldOf (worked base updates)
 
-module _ {Offered : List ℕ → Type 0} (octets : (file : List ℕ) → Offered file → Bytes file) where
+module _ {Offered : List ℕ → Type 0} (octets : BytesEach Offered) where
   module _ {base : Chart} {cell : List ℕ} (st : Stands Offered base cell) where
     -- ---- the cell and its chart
     there : Whole (worked base (st .updates))

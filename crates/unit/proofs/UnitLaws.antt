@@ -1,28 +1,17 @@
 -- Demand 3. `unit-shows`: a unit's cell is the re-issue of its base at the number shown. `reissue-only`: there is one such. `same-number-same-bytes`: so two units that
--- show one number hold equal bytes. `unit-steps`, `unit-waits`, `unit-once`: which offers change the number. `unit-takes`, `unit-admits`: read over demand 2, what is
--- allowed is taken. Premises: the files are bytes, and of those that read as updates of the base there is one to a number. Assumes nothing.
-use Prim.Native.Nat.{ℕ, _+_, _≤_, _<_}
+-- show one number hold equal bytes. Premises: the files are bytes, and of those that read as updates of the base there is one to a number; nothing is asked of the
+-- order, of the areas, or of any other file. Assumes nothing.
+use Prim.Native.Nat.{ℕ}
 use mathlib.Core.List.{List}
-use mathlib.Core.Logic.{⊎-elim}
 use mathlib.Core.Path.{_≡_, refl, sym, ap, _∙_}
 use native.Mathlib.Omega.{arith}
-use lib.ListN.{length}
-use Rattle.octets.proofs.Cases.{eq-or-ne}
 use Rattle.held.specs.Chart.{Chart}
 use Rattle.held.specs.Held.{heldOf}
-use Rattle.loader.specs.Admit.{admitOf}
-use Rattle.loader.specs.Apply.{applyOf}
-use Rattle.demands.specs.Cell.{Bytes, Room, cellChart}
-use Rattle.demands.specs.Update.{updatedBy, Allowed, Areas}
-use Rattle.demands.proofs.Updated.{updated-once}
-use Rattle.demands.proofs.Whole.{whole-back, whole-admitted, whole-updated}
-use Rattle.demands.proofs.Apply.{accepted-exactly}
-use Rattle.unit.specs.Unit.{admitWrote, Offer, offered, UnitOf}
-use Rattle.unit.specs.Unit.UnitOf.{given}
-use Rattle.unit.specs.Reissue.{chartNumber, shown, numberOf, UpdateOf, OneEach, worked, Reissue}
-use Rattle.unit.proofs.CallLaws.{offered-done, offered-kept}
-use Rattle.unit.proofs.SeriesLaws.{allowed-next, series-numbers, series-same, series-every}
-use Rattle.unit.proofs.StandsLaws.{Stands, stands-whole, stands-bytes, stands-readable, stands-shown, stands-again, stands-allowed, unit-stands}
+use Rattle.demands.specs.Cell.{Bytes, cellChart}
+use Rattle.unit.specs.Unit.{BytesEach, UnitOf}
+use Rattle.unit.specs.Reissue.{shown, OneEach, worked, Reissue}
+use Rattle.unit.proofs.SeriesLaws.{series-numbers, series-same, series-every}
+use Rattle.unit.proofs.StandsLaws.{stands-shown, unit-stands}
 
 -- ---- the re-issue, by charts alone: at a number there is one
 pub reissue-only : {Offered : List ℕ → Type 0} {base : Chart} {n : ℕ} {a b : List ℕ} → OneEach Offered base → Reissue Offered base n a → Reissue Offered base n b → a ≡ b
@@ -32,7 +21,7 @@ reissue-only {base = base} one r q =
 
 -- ---- "Offer files in any order, repeated or with gaps": "After each, the unit's cell is the re-issue of the base with every update after the base's own number up to
 -- the number shown applied once, in order, by demand 2's rules"
-pub unit-shows : {Offered : List ℕ → Type 0} {base cell : List ℕ} → Bytes base → ((file : List ℕ) → Offered file → Bytes file) → OneEach Offered (cellChart base)
+pub unit-shows : {Offered : List ℕ → Type 0} {base cell : List ℕ} → Bytes base → BytesEach Offered → OneEach Offered (cellChart base)
     → UnitOf Offered base cell → Reissue Offered (cellChart base) (shown cell) cell
 unit-shows {base = base} b octets one u =
     let st = unit-stands octets b u in
@@ -46,72 +35,6 @@ unit-shows {base = base} b octets one u =
     }
 
 -- ---- "Two units of this base showing the same number therefore hold equal bytes, also where one began from a re-issue that the other wrote earlier"
-pub same-number-same-bytes : {Offered : List ℕ → Type 0} {base cell other : List ℕ} → Bytes base → ((file : List ℕ) → Offered file → Bytes file)
+pub same-number-same-bytes : {Offered : List ℕ → Type 0} {base cell other : List ℕ} → Bytes base → BytesEach Offered
     → OneEach Offered (cellChart base) → UnitOf Offered base cell → UnitOf Offered base other → shown cell ≡ shown other → cell ≡ other
 same-number-same-bytes b octets one u v h = reissue-only one (unit-shows b octets one u) (rw h (unit-shows b octets one v))
-
--- ---- one offer to a unit: no premise on equal numbers is needed here
-module _ {Offered : List ℕ → Type 0} {base cell : List ℕ} (b : Bytes base) (octets : (file : List ℕ) → Offered file → Bytes file) (u : UnitOf Offered base cell)
-    (o : Offer) (these : Bytes (o .file)) where
-  st : Stands Offered (cellChart base) cell
-  st = unit-stands octets b u
-
-  -- what is taken has the next number, which is then shown
-  pub unit-steps : applyOf cell (o .file) (o .work) (length (o .area)) .code ≡ 0 → (numberOf (o .file) ≡ shown cell + 1) × (shown (offered cell o) ≡ numberOf (o .file))
-  unfolding shown numberOf
-  unit-steps h =
-      let a = stands-allowed octets st o these h in
-      let made = updatedBy (cellChart cell) (o .file) in
-      let back = whole-back made (whole-updated (cellChart cell) (o .file) these (stands-whole octets st) a) .2 in (
-        allowed-next (cellChart cell) (o .file) a,
-        ap (λ (s : List ℕ). chartNumber (cellChart s)) (offered-done cell o h)
-            ∙ ap (λ (c : Chart). chartNumber c) back
-            ∙ updated-once (cellChart cell) (o .file) a .number,
-      )
-
-  -- "in any order, repeated or with gaps": a file of any other number leaves the unit as it is
-  pub unit-waits : (numberOf (o .file) ≡ shown cell + 1 → ⊥) → offered cell o ≡ cell
-  unit-waits other = offered-kept cell o (λ h. other (unit-steps h .0))
-
-  -- repeated, or earlier
-  pub unit-earlier : numberOf (o .file) ≤ shown cell → offered cell o ≡ cell
-  unit-earlier h = unit-waits (λ e. omega arith)
-
-  -- with a gap
-  pub unit-gap : shown cell + 1 < numberOf (o .file) → offered cell o ≡ cell
-  unit-gap h = unit-waits (λ e. omega arith)
-
-  -- what demand 2's rules don't allow is not taken
-  pub unit-keeps : (Allowed (cellChart cell) (o .file) → ⊥) → offered cell o ≡ cell
-  unit-keeps not = offered-kept cell o (λ h. not (stands-allowed octets st o these h))
-
-  -- ---- "Demand 3 alone lets the first pass, so it is read over demand 2": what the rules allow is taken, if the areas suffice
-  pub unit-takes : Allowed (cellChart cell) (o .file) → Areas cell (o .file) (o .work) (length (o .area))
-      → (offered cell o ≡ heldOf (updatedBy (cellChart cell) (o .file))) × (shown (offered cell o) ≡ shown cell + 1)
-  unit-takes a enough =
-      let h = accepted-exactly cell (o .file) (o .work) (length (o .area)) (stands-bytes octets st) these (stands-readable octets st) .1 (a, enough) in
-      let s = unit-steps h in
-      (offered-done cell o h, s .1 ∙ s .0)
-
-  -- the number shown never falls, and rises by one at most
-  pub unit-rises : (shown cell ≤ shown (offered cell o)) × (shown (offered cell o) ≤ shown cell + 1)
-  unit-rises =
-      ⊎-elim (λ (h : applyOf cell (o .file) (o .work) (length (o .area)) .code ≡ 0). let s = unit-steps h in let e = s .0 in let f = s .1 in (omega arith, omega arith))
-      (λ (h : applyOf cell (o .file) (o .work) (length (o .area)) .code ≡ 0 → ⊥). let e = ap shown (offered-kept cell o h) in (omega arith, omega arith))
-      (eq-or-ne (applyOf cell (o .file) (o .work) (length (o .area)) .code) 0)
-
-module _ {Offered : List ℕ → Type 0} {base cell : List ℕ} (b : Bytes base) (octets : (file : List ℕ) → Offered file → Bytes file) (u : UnitOf Offered base cell) where
-  -- a file that was taken isn't taken again, whatever areas are lent
-  pub unit-once : (o p : Offer) → Offered (o .file) → p .file ≡ o .file → applyOf cell (o .file) (o .work) (length (o .area)) .code ≡ 0
-      → offered (offered cell o) p ≡ offered cell o
-  unit-once o p off same h =
-      let s = unit-steps b octets u o (octets (o .file) off) h .1 in
-      let e = ap numberOf same in
-      unit-earlier b octets (given o off u) p (rw same (octets (o .file) off)) (omega arith)
-
-  -- Admit of a unit's cell gives the cell, if the areas suffice
-  pub unit-admits : (w : ℕ) (area : List ℕ) → Room cell w (length area) → (admitOf cell w (length area) .code ≡ 0) × (admitWrote cell w area ≡ cell)
-  unit-admits w area enough =
-      let st = unit-stands octets b u in
-      let h = whole-admitted cell w (length area) (stands-bytes octets st) .1 (stands-readable octets st, stands-whole octets st, enough) in
-      (h, stands-again octets st w area h)

@@ -1,4 +1,5 @@
--- A unit, by the calls alone: what Admit wrote, and what becomes of it as files are offered. No chart is named here. Assumes nothing.
+-- A unit, by the calls alone: what Admit wrote, and what becomes of it as files are offered. No chart is named here. `admitOf`, `admitArea`, `applyOf`, `applyArea` are
+-- what the calls' contracts say of answer and output. Assumes nothing.
 use Prim.Native.Nat.{ℕ}
 use mathlib.Core.Bool.{cond}
 use mathlib.Core.List.{List, [], _∷_, List·Memᴰ, map}
@@ -7,6 +8,7 @@ use lib.ListN.{length, take}
 use lib.Dec.{eqb}
 use Rattle.loader.specs.Admit.{admitOf, admitArea}
 use Rattle.loader.specs.Apply.{applyOf, applyArea}
+use Rattle.demands.specs.Cell.{Bytes}
 
 -- ---- what a call wrote, with w bytes of work and this output area lent
 -- "the bytes an accepted Admit wrote (as many as Number says)"
@@ -39,6 +41,10 @@ filesOf os = map (λ (o : Offer). o .file) os
 
 abbrev pub In : List Offer → List ℕ → Type 0
 In os file = List·Memᴰ file (filesOf os)
+
+-- a file is a list of numbers below 256: so is everything that a call can be lent, and no file is left out by it
+abbrev pub BytesEach : (List ℕ → Type 0) → Type 0
+BytesEach Offered = (file : List ℕ) → Offered file → Bytes file
 
 -- ---- a unit of this base, at each moment of its life; `Offered` are the files offered to any unit
 -- "A unit in demand 3 is the bytes an accepted Admit wrote (as many as Number says), replaced at each offered file by those Apply on them wrote if it gave 0,
