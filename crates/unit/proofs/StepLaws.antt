@@ -1,5 +1,6 @@
 -- One offer to a unit. `unit-steps`: what is taken has the number after that shown, which is then shown. `unit-waits`, `unit-keeps`, `unit-once`: any other file leaves
--- the unit as it is. `unit-takes`, `unit-admits`: what demand 2's rules allow is taken. No premise on equal numbers is needed here. Assumes nothing.
+-- the unit as it is. `unit-takes`, `unit-admits`: what demand 2's rules allow is taken. `unit-named`: name and edition stay. No premise on equal
+-- numbers is needed here. Assumes nothing.
 use Prim.Native.Nat.{ℕ, _+_, _≤_, _<_}
 use mathlib.Core.List.{List}
 use mathlib.Core.Logic.{⊎-elim}
@@ -11,6 +12,7 @@ use Rattle.held.specs.Chart.{Chart}
 use Rattle.held.specs.Held.{heldOf}
 use Rattle.loader.specs.Admit.{admitOf}
 use Rattle.loader.specs.Apply.{applyOf}
+use Rattle.changes.specs.Follow.{chartName}
 use Rattle.demands.specs.Cell.{Bytes, Room, cellChart}
 use Rattle.demands.specs.Update.{updatedBy, Allowed, Areas}
 use Rattle.demands.proofs.Updated.{updated-once}
@@ -20,8 +22,8 @@ use Rattle.unit.specs.Unit.{admitWrote, Offer, offered, BytesEach, UnitO
 use Rattle.unit.specs.Unit.UnitOf.{given}
 use Rattle.unit.specs.Reissue.{chartNumber, shown, numberOf}
 use Rattle.unit.proofs.CallLaws.{offered-done, offered-kept}
-use Rattle.unit.proofs.SeriesLaws.{allowed-next}
-use Rattle.unit.proofs.StandsLaws.{Stands, stands-whole, stands-bytes, stands-readable, stands-again, stands-allowed, unit-stands}
+use Rattle.unit.proofs.SeriesLaws.{allowed-next, worked-name, worked-edition}
+use Rattle.unit.proofs.StandsLaws.{Stands, stands-chart, stands-whole, stands-bytes, stands-readable, stands-again, stands-allowed, unit-stands}
 
 module _ {Offered : List ℕ → Type 0} {base cell : List ℕ} (b : Bytes base) (octets : BytesEach Offered) (u : UnitOf Offered base cell)
     (o : Offer) (these : Bytes (o .file)) where
@@ -73,6 +75,16 @@ module _ {Offered : List ℕ → Type 0} {base cell : List ℕ} (b : Bytes base)
       (eq-or-ne (applyOf cell (o .file) (o .work) (length (o .area)) .code) 0)
 
 module _ {Offered : List ℕ → Type 0} {base cell : List ℕ} (b : Bytes base) (octets : BytesEach Offered) (u : UnitOf Offered base cell) where
+  -- "its name and edition" are the base's, whatever was offered
+  pub unit-named : (chartName (cellChart cell .header .dsid) ≡ chartName (cellChart base .header .dsid))
+      × (cellChart cell .header .dsid .edition ≡ cellChart base .header .dsid .edition)
+  unit-named =
+      let st = unit-stands octets b u in
+      let e = stands-chart octets st in (
+        ap (λ (c : Chart). chartName (c .header .dsid)) e ∙ worked-name (st .series),
+        ap (λ (c : Chart). c .header .dsid .edition) e ∙ worked-edition (st .series),
+      )
+
   -- a file that was taken isn't taken again, whatever areas are lent
   pub unit-once : (o p : Offer) → Offered (o .file) → p .file ≡ o .file → applyOf cell (o .file) (o .work) (length (o .area)) .code ≡ 0
       → offered (offered cell o) p ≡ offered cell o
