@@ -1,0 +1,3 @@
+-- What the calls do with the small files.
+pub mod Computing
+pub mod Judged
