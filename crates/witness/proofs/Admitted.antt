@@ -4,16 +4,12 @@ use mathlib.Core.List.{List, _++_}
 use mathlib.Core.Path.{_≡_, refl, ap, _∙_}
 use native.Mathlib.Omega.{arith}
 use lib.ListN.{length, drop}
-use Rattle.entries.specs.Rules.{allOf}
 use Rattle.reader.specs.Reader.{answer}
 use Rattle.reader.specs.declared.answer.Answer.{Answer}
 use Rattle.held.specs.Held.{heldOf}
 use Rattle.loader.specs.Admit.{admitOf, admitArea}
-use Rattle.demands.specs.Cell.{Bytes, Readable, recordsIn, countIn, cellChart}
-use Rattle.demands.specs.Verdict.{Good}
-use Rattle.demands.specs.ByteChart.{Whole}
-use Rattle.demands.proofs.Admit.{Admissible, Writes, admitted-exactly, admit-writes, admitted-good}
-use Rattle.demands.proofs.Whole.{whole-admitted, whole-back}
+use Rattle.demands.specs.Cell.{Bytes, recordsIn, countIn, cellChart}
+use Rattle.demands.proofs.Admit.{Admissible, admitted-exactly, admit-writes}
 use Rattle.witness.specs.SmallCell.{small}
 use Rattle.witness.specs.SmallUpdates.{heldSmall}
 use Rattle.witness.proofs.Computing.{judging, admitting, smallFiles}

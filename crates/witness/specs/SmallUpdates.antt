@@ -4,7 +4,11 @@ use mathlib.Core.List.{List, [], _∷_, flatten}
 use Rattle.octets.specs.Number.{bytesOf}
 use Rattle.table.specs.Text.{bytes}
 use Rattle.header.specs.First.{firstRecord}
+use Rattle.held.specs.Chart.{Chart}
+use Rattle.demands.specs.Cell.{cellChart}
+use Rattle.demands.specs.Update.{updatedBy}
 use Rattle.witness.specs.Records.{fieldEnd, declared, declaredFirst, declaredDsid, declaredDssi, declaredVrid, declaredPairs, declaredFrid, declaredFoid}
+use Rattle.witness.specs.SmallCell.{small}
 use Rattle.witness.specs.Records.{cellHeading, updateHeading, parameters, vrid, pair, node, edge, frid, foid, feature}
 
 -- ---- update 1 moves node 2: a modify, whose SGCC replaces its one pair
@@ -28,7 +32,17 @@ deleting =
     ∷ bytes "00074 D     00049   2204" ∷ bytes "00010300" ∷ bytes "FRID1303" ∷ bytes "FOID0916" ∷ fieldEnd
     ∷ bytesOf 2 2 ∷ fieldEnd ∷ frid 2 2 2 ∷ fieldEnd ∷ foid ∷ fieldEnd ∷ [])
 
--- ---- what is held: node 1 stands before node 2
+-- ---- the charts
+abbrev pub chartSmall : Chart
+chartSmall = cellChart small
+
+abbrev pub chartMoved : Chart
+chartMoved = updatedBy chartSmall moving
+
+abbrev pub chartDeleted : Chart
+chartDeleted = updatedBy chartMoved deleting
+
+-- ---- their held forms: node 1 stands before node 2
 unfoldable pub heldSmall : List ℕ
 heldSmall = flatten (firstRecord ∷ cellHeading "0" "2024010120240101" 1 ∷ parameters ∷ node 3 1 1 0 ∷ node 4 2 1 10000000 ∷ edge 1 2 ∷ feature 2 255 ∷ [])
 
