@@ -1,5 +1,5 @@
 -- What Apply does with the two updates of the small cell, computed to the bytes: in order, too early, and again. Assumes nothing.
-use Prim.Native.Nat.{ℕ, _+_, _*_, _≤_}
+use Prim.Native.Nat.{ℕ, _≤_}
 use mathlib.Core.List.{List, _++_}
 use mathlib.Core.Path.{_≡_, refl, ap, _∙_}
 use native.Mathlib.Omega.{arith}
@@ -12,8 +12,8 @@ use Rattle.held.specs.Held.{heldOf}
 use Rattle.held.specs.Limits.{recordCount}
 use Rattle.changes.specs.Amend.{changeFault}
 use Rattle.loader.specs.Apply.{applyOf, applyArea}
-use Rattle.demands.specs.Cell.{Bytes, recordsIn, cellChart}
-use Rattle.demands.specs.Update.{ReadableUpdate, changesIn, fileChange, Allowed}
+use Rattle.demands.specs.Cell.{Bytes, recordsIn}
+use Rattle.demands.specs.Update.{changesIn, fileChange, Allowed}
 use Rattle.demands.specs.ByteChart.{Whole}
 use Rattle.demands.proofs.Apply.{accepted-readable, accepted-exactly}
 use Rattle.demands.proofs.Whole.{whole-admitted}
@@ -81,9 +81,9 @@ places : (recordAt moving 1 ≡ 438) × (recordAt deleting 1 ≡ 424)
 unfolding judging smallFiles
 places = (refl, refl)
 
-lengths : (length heldMoved ≡ 2077) × (length heldDeleted ≡ 1986)
+pub held-lengths : (length heldMoved ≡ 2077) × (length heldDeleted ≡ 1986)
 unfolding judging admitting smallFiles
-lengths = (refl, refl)
+held-lengths = (refl, refl)
 
 -- ---- the charts are good and of bytes, and the updates are allowed on them
 pub small-whole : Whole chartSmall
@@ -112,26 +112,27 @@ deleted-whole = next-whole chartMoved moved-whole heldMoved moved-held deleting 
 -- ---- in order: "the held form of the result", with Number; all other bytes of the output stay
 pub moving-accepted : (w o : ℕ) → 160 ≤ w → 2077 ≤ o → applyOf heldSmall moving w o .code ≡ 0
 moving-accepted w o work room =
-    accepted-here chartSmall small-whole heldSmall small-held moving moving-bytes moving-allowed heldMoved moved-held w o (omega (arith, small-count, moving-count)) (omega (arith, lengths .0))
+    accepted-here chartSmall small-whole heldSmall small-held moving moving-bytes moving-allowed heldMoved moved-held w o
+    (omega (arith, small-count, moving-count)) (omega (arith, held-lengths .0))
 
 pub moving-applied : (w : ℕ) (out : List ℕ) → 160 ≤ w → 2077 ≤ length out
     → (applyOf heldSmall moving w (length out) ≡ answer 0 0 0 2077 0) × (applyArea heldSmall moving w out ≡ heldMoved ++ drop 2077 out)
 moving-applied w out work room =
-    rw (lengths .0) at
+    rw (held-lengths .0) at
     (written-here chartSmall small-whole heldSmall small-held moving moving-bytes moving-allowed heldMoved moved-held w out
-    (omega (arith, small-count, moving-count)) (omega (arith, lengths .0)))
+    (omega (arith, small-count, moving-count)) (omega (arith, held-lengths .0)))
 
 pub deleting-accepted : (w o : ℕ) → 160 ≤ w → 1986 ≤ o → applyOf heldMoved deleting w o .code ≡ 0
 deleting-accepted w o work room =
     accepted-here chartMoved moved-whole heldMoved moved-held deleting deleting-bytes deleting-allowed heldDeleted deleted-held w o
-    (omega (arith, moved-count, deleting-count)) (omega (arith, lengths .1))
+    (omega (arith, moved-count, deleting-count)) (omega (arith, held-lengths .1))
 
 pub deleting-applied : (w : ℕ) (out : List ℕ) → 160 ≤ w → 1986 ≤ length out
     → (applyOf heldMoved deleting w (length out) ≡ answer 0 0 0 1986 0) × (applyArea heldMoved deleting w out ≡ heldDeleted ++ drop 1986 out)
 deleting-applied w out work room =
-    rw (lengths .1) at
+    rw (held-lengths .1) at
     (written-here chartMoved moved-whole heldMoved moved-held deleting deleting-bytes deleting-allowed heldDeleted deleted-held w out
-    (omega (arith, moved-count, deleting-count)) (omega (arith, lengths .1)))
+    (omega (arith, moved-count, deleting-count)) (omega (arith, held-lengths .1)))
 
 -- ---- out of order
 -- update 2 before update 1

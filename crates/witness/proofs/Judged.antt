@@ -1,6 +1,5 @@
 -- What Judge answers to the small cells, computed: it accepts both, and with one byte changed gives each of the codes 2, 4 to 8 and 17 to 19. Assumes nothing.
-use Prim.Native.Nat.{ℕ}
-use mathlib.Core.List.{List, [], _∷_}
+use mathlib.Core.List.{[], _∷_}
 use mathlib.Core.Path.{_≡_, refl}
 use lib.ListN.{set}
 use Rattle.reader.specs.Reader.{answer}

@@ -1,7 +1,8 @@
--- What the calls do with the small files.
+-- What the calls do with the small files: Judged, Admitted, Applied and Wrong are what the owner reads.
 pub mod Computing
 pub mod BytesLaws
 pub mod HeldLaws
 pub mod Judged
 pub mod Admitted
 pub mod Applied
+pub mod Wrong

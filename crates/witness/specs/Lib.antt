@@ -2,3 +2,4 @@
 pub mod Records
 pub mod SmallCell
 pub mod SmallUpdates
+pub mod Loaders
