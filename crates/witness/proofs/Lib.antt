@@ -6,3 +6,4 @@ pub mod Judged
 pub mod Admitted
 pub mod Applied
 pub mod Wrong
+pub mod Units

@@ -4,7 +4,7 @@ use Prim.Native.Nat.{ℕ}
 use mathlib.Core.List.{List, [], _++_, map}
 use mathlib.Core.Path.{_≡_, refl, sym, ap, _∙_}
 use native.Mathlib.Omega.{arith}
-use lib.ListN.{length, drop, getD, replicate, length-replicate}
+use lib.ListN.{length, drop, getD, length-replicate}
 use lib.Seq.{take-at}
 use Rattle.reader.specs.Reader.{answer}
 use Rattle.reader.specs.declared.answer.Answer.{Answer}
@@ -19,6 +19,7 @@ use Rattle.demands.proofs.Admit.{admit-writes}
 use Rattle.demands.proofs.Apply.{apply-writes}
 use Rattle.witness.specs.SmallCell.{small}
 use Rattle.witness.specs.SmallUpdates.{moving, deleting, chartSmall, chartMoved, chartDeleted, heldSmall, heldMoved, heldDeleted}
+use Rattle.witness.specs.SmallOffers.{room}
 use Rattle.witness.specs.Loaders.{Left, Admitter, Applier, wrote, KeepsAdmit, KeepsApply, AdmitsNothing, AppliesNothing, AdmitsAlike, AppliesAlike, WritesAlike, Copies}
 use Rattle.witness.specs.Loaders.{WorksAhead, InventsAdmitted, InventsApplied}
 use Rattle.witness.proofs.Computing.{judging, admitting, applying, smallFiles}
@@ -27,10 +28,7 @@ use Rattle.witness.proofs.Admitted.{small-held, small-admitted, held-le
 use Rattle.witness.proofs.Applied.{small-whole, moved-whole, deleted-whole, moved-held, deleted-held, moved-count, deleted-count, held-lengths}
 use Rattle.witness.proofs.Applied.{moving-applied, deleting-applied, moving-again}
 
--- ---- an output area that suffices for each
-unfoldable room : List ℕ
-room = replicate 2077 0
-
+-- ---- the output area suffices for each
 room-length : length room ≡ 2077
 unfolding room
 room-length = length-replicate {A = ℕ} 2077 0

@@ -3,3 +3,4 @@ pub mod Records
 pub mod SmallCell
 pub mod SmallUpdates
 pub mod Loaders
+pub mod SmallOffers
