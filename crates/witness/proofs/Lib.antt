@@ -6,4 +6,5 @@ pub mod Judged
 pub mod Admitted
 pub mod Applied
 pub mod Wrong
+pub mod Offered
 pub mod Units

@@ -1,120 +1,154 @@
--- Demand 3 on the small files, computed to the bytes: the premises of its theorems are met, and this is what they say. Two updates are offered in the wrong order,
--- repeated and with a gap to one unit, with areas too short to another. Assumes nothing.
-use Prim.Native.Nat.{ℕ, _+_, _*_, _≤_}
+-- Demand 3 on the small files: the premises of its theorems are met, and this is what they say. Assumes nothing.
+use Prim.Native.Nat.{ℕ, _+_, _-_}
 use mathlib.Core.List.{List, [], _∷_, _++_, List·Memᴰ·head, List·Memᴰ·tail}
-use mathlib.Core.Path.{_≡_, refl, sym, ap, _∙_}
+use mathlib.Core.Path.{_≡_, refl}
 use native.Mathlib.Omega.{arith}
-use lib.ListN.{length, length-replicate}
-use Rattle.held.specs.Chart.{Chart}
+use lib.ListN.{length}
 use Rattle.held.specs.Held.{heldOf}
-use Rattle.loader.specs.Admit.{admitOf}
-use Rattle.loader.specs.Apply.{applyOf}
 use Rattle.changes.specs.Rules.{All}
 use Rattle.changes.specs.Rules.All.{all-none, all-more}
-use Rattle.demands.specs.Cell.{Bytes, recordsIn, countIn, cellChart}
-use Rattle.demands.specs.Update.{changesIn, updatedBy, Allowed, Areas}
-use Rattle.demands.specs.ByteChart.{Whole}
+use Rattle.loader.specs.Admit.{admitOf}
+use Rattle.loader.specs.Apply.{applyOf}
+use Rattle.demands.specs.Cell.{cellChart, Room}
+use Rattle.demands.specs.Update.{updatedBy, Areas}
 use Rattle.demands.proofs.Apply.{accepted-exactly}
-use Rattle.demands.proofs.ReadsBack.{held-admitted}
+use Rattle.demands.proofs.Admit.{admitted-exactly}
 use Rattle.unit.specs.Unit.{admitWrote, Offer, offered, after, filesOf, In, BytesEach, UnitOf}
-use Rattle.unit.specs.Reissue.{chartNumber, shown, numberOf, OneEach, Reissue}
-use Rattle.unit.proofs.CallLaws.{admit-wrote, apply-allowed, offered-done, offered-kept}
-use Rattle.unit.proofs.SeriesLaws.{allowed-next}
-use Rattle.unit.proofs.OfferLaws.{in-each, in-one-each, unit-shows-each, two-units, two-units-again}
+use Rattle.unit.specs.Unit.UnitOf.{begun, given}
+use Rattle.unit.specs.Reissue.{shown, numberOf, OneEach, worked, Series, Reissue}
+use Rattle.unit.specs.Reissue.Series.{ended, next}
+use Rattle.unit.specs.Enough.{Enough}
+use Rattle.unit.specs.Enough.Enough.{enough-none, enough-more}
+use Rattle.unit.specs.Library.{reissueAt, Shelved}
+use Rattle.unit.proofs.OfferLaws.{in-each, in-one-each, unit-shows-each, two-units, two-units-again, unit-reaches}
+use Rattle.unit.proofs.LibraryLaws.{unit-is}
+use Rattle.unit.proofs.StepLaws.{unit-steps, unit-takes, unit-gap, unit-earlier, unit-once, unit-admits}
 use Rattle.witness.specs.SmallCell.{small}
-use Rattle.witness.specs.SmallUpdates.{moving, deleting, chartSmall, chartMoved, chartDeleted, heldSmall, heldMoved, heldDeleted}
-use Rattle.witness.specs.SmallOffers.{room, lent, narrow, tight, offers, others}
-use Rattle.witness.proofs.Computing.{judging, admitting, applying, smallFiles}
-use Rattle.witness.proofs.HeldLaws.{held-is-bytes, held-is-readable, held-means, held-records}
-use Rattle.witness.proofs.Admitted.{small-bytes, small-held, small-accepted, held-length}
-use Rattle.witness.proofs.Applied.{moving-bytes, deleting-bytes, small-whole, moved-whole, deleted-whole, moved-held, deleted-held, small-count, moving-count, moved-count}
-use Rattle.witness.proofs.Applied.{moving-accepted, deleting-accepted, held-lengths}
+use Rattle.witness.specs.SmallUpdates.{moving, deleting, chartSmall, chartMoved, heldSmall, heldMoved, heldDeleted}
+use Rattle.witness.specs.SmallOffers.{room, lent, tight, offers, others, library}
+use Rattle.witness.proofs.HeldLaws.{held-is-bytes, held-is-readable}
+use Rattle.witness.proofs.Admitted.{small-bytes, small-held}
+use Rattle.witness.proofs.Applied.{moving-bytes, deleting-bytes, small-whole, moved-whole, moved-held, moving-allowed, deleting-allowed, moving-accepted}
+use Rattle.witness.proofs.Applied.{deleting-accepted}
+use Rattle.witness.proofs.Offered.{room-length, numbers, small-means, shown-each, first-taken, room-accepted, begins, after-each, after-others, moved-accepted}
+use Rattle.witness.proofs.Offered.{again-others}
 
-room-length : length room ≡ 2077
-unfolding room
-room-length = length-replicate {A = ℕ} 2077 0
+-- ---- the premises of demand 3: the files are bytes, and of those offered to any unit there is one to a number
+abbrev all-offers : List Offer
+all-offers = offers ++ others
 
--- ---- numbers
-numbers : (chartNumber chartSmall ≡ 0) × (chartNumber chartMoved ≡ 1) × (chartNumber chartDeleted ≡ 2) × (numberOf moving ≡ 1) × (numberOf deleting ≡ 2)
-unfolding numberOf judging admitting applying smallFiles recordsIn
-numbers = (refl, refl, refl, refl, refl)
+pub offers-bytes : BytesEach (In all-offers)
+offers-bytes =
+    in-each all-offers
+    (all-more deleting-bytes (all-more moving-bytes (all-more moving-bytes (all-more deleting-bytes
+    (all-more moving-bytes (all-more moving-bytes (all-more moving-bytes (all-more deleting-bytes (all-more moving-bytes all-none)))))))))
 
-small-means : cellChart heldSmall ≡ chartSmall
-small-means = held-means chartSmall small-whole heldSmall small-held
+-- the files of which this is the only one of its number
+Only : List ℕ → Type 0
+Only a = All (λ (b : List ℕ). numberOf a ≡ numberOf b → a ≡ b) (filesOf all-offers)
 
-moved-means : cellChart heldMoved ≡ chartMoved
-moved-means = held-means chartMoved moved-whole heldMoved moved-held
+only-moving : Only moving
+unfolding Only
+only-moving =
+    let same : numberOf moving ≡ numberOf moving → moving ≡ moving = λ e. refl in
+    let not : numberOf moving ≡ numberOf deleting → moving ≡ deleting = λ e. absurd (omega (arith, numbers .3, numbers .4)) in
+    all-more not (all-more same (all-more same (all-more not (all-more same (all-more same (all-more same (all-more not (all-more same all-none))))))))
 
-deleted-means : cellChart heldDeleted ≡ chartDeleted
-deleted-means = held-means chartDeleted deleted-whole heldDeleted deleted-held
+only-deleting : Only deleting
+unfolding Only
+only-deleting =
+    let same : numberOf deleting ≡ numberOf deleting → deleting ≡ deleting = λ e. refl in
+    let not : numberOf deleting ≡ numberOf moving → deleting ≡ moving = λ e. absurd (omega (arith, numbers .3, numbers .4)) in
+    all-more same (all-more not (all-more not (all-more same (all-more not (all-more not (all-more not (all-more same (all-more not all-none))))))))
 
-pub shown-each : (shown heldSmall ≡ 0) × (shown heldMoved ≡ 1) × (shown heldDeleted ≡ 2)
-unfolding shown
-shown-each = (ap (λ (c : Chart). chartNumber c) small-means ∙ numbers .0, ap (λ (c : Chart). chartNumber c) moved-means ∙ numbers .1, ap (λ (c : Chart). chartNumber c) deleted-means ∙ numbers .2)
+pub offers-one : OneEach (In all-offers) chartSmall
+unfolding Only
+offers-one =
+    in-one-each all-offers
+    (all-more only-deleting (all-more only-moving (all-more only-moving (all-more only-deleting
+    (all-more only-moving (all-more only-moving (all-more only-moving (all-more only-deleting (all-more only-moving all-none)))))))))
 
--- ---- one offer
--- a file whose number isn't the next leaves what is held
-kept : (c : Chart) → Whole c → (cell : List ℕ) → heldOf c ≡ cell → (o : Offer) → Bytes (o .file) → (numberOf (o .file) ≡ chartNumber c + 1 → ⊥) → offered cell o ≡ cell
-kept c whole cell is o these not =
-    offered-kept cell o (λ h.
-    let a = apply-allowed cell (o .file) (o .work) (length (o .area)) (held-is-bytes c whole cell is) these h in
-    not (allowed-next (cellChart cell) (o .file) a ∙ ap (λ (x : Chart). chartNumber x + 1) (held-means c whole cell is)))
+-- ---- `unit-shows-each` of the first unit after all its offers: the bytes held are the re-issue of the base at 2
+pub small-shows : Reissue (In all-offers) chartSmall 2 heldDeleted
+small-shows = rw (after-each .3, shown-each .2) at (unit-shows-each small small-bytes 112 room room-accepted offers others offers-bytes offers-one)
 
-too-early : offered heldSmall (lent deleting) ≡ heldSmall
-too-early = kept chartSmall small-whole heldSmall small-held (lent deleting) deleting-bytes (λ e. omega (arith, numbers .0, numbers .4))
+-- ---- `two-units`: both show 2
+pub small-two-units : after (admitWrote small 112 room) offers ≡ after (admitWrote small 112 room) others
+small-two-units = two-units small small-bytes 112 room room-accepted 112 room room-accepted offers others offers-bytes offers-one (rw (after-each .3, after-others))
 
-first-taken : offered heldSmall (lent moving) ≡ heldMoved
-first-taken =
-    offered-done heldSmall (lent moving) (moving-accepted 160 (length room) (omega arith) (omega (arith, room-length)))
-    ∙ ap (λ (c : Chart). heldOf (updatedBy c moving)) small-means
-    ∙ moved-held
+-- ---- `two-units-again`: the second began from what the first held at 1
+pub small-two-again : after (admitWrote small 112 room) offers ≡ after (admitWrote (after (admitWrote small 112 room) (lent deleting ∷ lent moving ∷ [])) 112 room) others
+small-two-again =
+    two-units-again small small-bytes 112 room room-accepted (lent deleting ∷ lent moving ∷ []) (lent moving ∷ lent deleting ∷ []) others 112 room
+    (rw (after-each .1) moved-accepted) offers-bytes offers-one (rw (after-each .3, after-each .1, again-others))
 
-repeated : offered heldMoved (lent moving) ≡ heldMoved
-repeated = kept chartMoved moved-whole heldMoved moved-held (lent moving) moving-bytes (λ e. omega (arith, numbers .1, numbers .3))
+-- ---- `unit-reaches`: both updates, in order, are taken
+small-unit : UnitOf (In all-offers) small heldSmall
+small-unit = let u : UnitOf (In all-offers) small (admitWrote small 112 room) = begun 112 room room-accepted in rw begins at u
 
-second-taken : offered heldMoved (lent deleting) ≡ heldDeleted
-second-taken =
-    offered-done heldMoved (lent deleting) (deleting-accepted 160 (length room) (omega arith) (omega (arith, room-length)))
-    ∙ ap (λ (c : Chart). heldOf (updatedBy c deleting)) moved-means
-    ∙ deleted-held
+small-series : Series (In all-offers) chartSmall (moving ∷ deleting ∷ [])
+small-series = next (List·Memᴰ·tail (List·Memᴰ·head refl)) moving-allowed (next (List·Memᴰ·head refl) deleting-allowed ended)
 
-too-late : offered heldDeleted (lent moving) ≡ heldDeleted
-too-late = kept chartDeleted deleted-whole heldDeleted deleted-held (lent moving) moving-bytes (λ e. omega (arith, numbers .2, numbers .3))
+first-areas : Areas heldSmall moving 160 (length room)
+first-areas =
+    accepted-exactly heldSmall moving 160 (length room) (held-is-bytes chartSmall small-whole heldSmall small-held) moving-bytes
+    (held-is-readable chartSmall small-whole heldSmall small-held) .0 (moving-accepted 160 (length room) (omega arith) (omega (arith, room-length))) .1
 
--- areas too short: of a file that is allowed
-short : (o : Offer) → o .file ≡ moving → (Areas heldSmall moving (o .work) (length (o .area)) → ⊥) → offered heldSmall o ≡ heldSmall
-short o is not =
-    offered-kept heldSmall o (λ h.
-    not (accepted-exactly heldSmall moving (o .work) (length (o .area)) (held-is-bytes chartSmall small-whole heldSmall small-held) moving-bytes
-    (held-is-readable chartSmall small-whole heldSmall small-held) .0 (rw is at h) .1))
+second-areas : Areas heldMoved deleting 160 (length room)
+second-areas =
+    accepted-exactly heldMoved deleting 160 (length room) (held-is-bytes chartMoved moved-whole heldMoved moved-held) deleting-bytes
+    (held-is-readable chartMoved moved-whole heldMoved moved-held) .0 (deleting-accepted 160 (length room) (omega arith) (omega (arith, room-length))) .1
 
-few-work : offered heldSmall (narrow moving) ≡ heldSmall
-few-work = short (narrow moving) refl (λ a. let r = held-records chartSmall small-whole heldSmall small-held in omega (arith, a .work, small-count, moving-count))
+small-enough : Enough heldSmall (lent moving ∷ lent deleting ∷ [])
+small-enough =
+    let rest : Enough (offered heldSmall (lent moving)) (lent deleting ∷ []) = rw first-taken (enough-more {os = []} second-areas enough-none) in
+    enough-more first-areas rest
 
-no-output : offered heldSmall (tight moving) ≡ heldSmall
-no-output =
-    short (tight moving) refl
-    (λ a. let e = ap (λ (c : Chart). length (heldOf (updatedBy c moving))) small-means ∙ ap length moved-held in omega (arith, a .output, held-lengths .0))
+pub small-reaches : (after heldSmall (lent moving ∷ lent deleting ∷ []) ≡ heldOf (worked (cellChart heldSmall) (moving ∷ deleting ∷ [])))
+    × (shown (after heldSmall (lent moving ∷ lent deleting ∷ [])) ≡ shown heldSmall + 2)
+small-reaches = unit-reaches small-bytes offers-bytes (lent moving ∷ lent deleting ∷ []) small-unit (rw small-means small-series) small-enough
 
--- ---- the units
--- what Admit wrote
-pub begins : admitWrote small 112 room ≡ heldSmall
-begins = admit-wrote small 112 room (small-accepted 112 (length room) (omega arith) (omega (arith, room-length))) ∙ small-held
+-- ---- `unit-steps`, `unit-takes`: update 1 on the cell at 0; `unit-gap`, `unit-earlier`, `unit-once`: update 2 on it, update 1 on the cell at 1
+moving-in : In all-offers moving
+moving-in = List·Memᴰ·tail (List·Memᴰ·head refl)
 
--- 2, 1, 1, 2 offered to a unit at 0: it shows 0, 1, 1, 2
-pub after-each : (after (admitWrote small 112 room) (lent deleting ∷ []) ≡ heldSmall)
-    × (after (admitWrote small 112 room) (lent deleting ∷ lent moving ∷ []) ≡ heldMoved)
-    × (after (admitWrote small 112 room) (lent deleting ∷ lent moving ∷ lent moving ∷ []) ≡ heldMoved)
-    × (after (admitWrote small 112 room) offers ≡ heldDeleted)
-unfolding after
-after-each = (
-  rw (begins, too-early),
-  rw (begins, too-early, first-taken),
-  rw (begins, too-early, first-taken, repeated),
-  rw (begins, too-early, first-taken, repeated, second-taken),
-)
+moved-unit : UnitOf (In all-offers) small heldMoved
+moved-unit = let u : UnitOf (In all-offers) small (offered heldSmall (lent moving)) = given (lent moving) moving-in small-unit in rw first-taken at u
 
--- the second unit comes to the same bytes by another way
-pub after-others : after (admitWrote small 112 room) others ≡ heldDeleted
-unfolding after
-after-others = rw (begins, few-work, no-output, first-taken, second-taken, too-late)
+first-code : applyOf heldSmall moving 160 (length room) .code ≡ 0
+first-code = moving-accepted 160 (length room) (omega arith) (omega (arith, room-length))
+
+pub small-steps : (numberOf moving ≡ shown heldSmall + 1) × (shown (offered heldSmall (lent moving)) ≡ numberOf moving)
+small-steps = unit-steps small-bytes offers-bytes small-unit (lent moving) moving-bytes first-code
+
+pub small-takes : (offered heldSmall (lent moving) ≡ heldOf (updatedBy (cellChart heldSmall) moving)) × (shown (offered heldSmall (lent moving)) ≡ shown heldSmall + 1)
+small-takes = unit-takes small-bytes offers-bytes small-unit (lent moving) moving-bytes (rw small-means moving-allowed) first-areas
+
+pub small-gap : offered heldSmall (lent deleting) ≡ heldSmall
+small-gap = unit-gap small-bytes offers-bytes small-unit (lent deleting) deleting-bytes (omega (arith, shown-each .0, numbers .4))
+
+pub small-earlier : offered heldMoved (lent moving) ≡ heldMoved
+small-earlier = unit-earlier small-bytes offers-bytes moved-unit (lent moving) moving-bytes (omega (arith, shown-each .1, numbers .3))
+
+pub small-once : offered (offered heldSmall (lent moving)) (tight moving) ≡ offered heldSmall (lent moving)
+small-once = unit-once small-bytes offers-bytes small-unit (lent moving) (tight moving) moving-in refl first-code
+
+-- ---- `unit-admits`: Admit of the cell at 1 gives it again
+moved-room : Room heldMoved 112 (length room)
+moved-room = admitted-exactly heldMoved 112 (length room) (held-is-bytes chartMoved moved-whole heldMoved moved-held) .0 moved-accepted .areas
+
+pub small-admits : (admitOf heldMoved 112 (length room) .code ≡ 0) × (admitWrote heldMoved 112 room ≡ heldMoved)
+small-admits = unit-admits small-bytes offers-bytes moved-unit 112 room moved-room
+
+-- ---- `unit-is`: a library of the two
+shelved : Shelved (In all-offers) library chartSmall
+unfolding library
+shelved =
+    let one : library (numberOf moving) ≡ moving = rw (numbers .3) in
+    let two : library (numberOf deleting) ≡ deleting = rw (numbers .4) in
+    let each : (file : List ℕ) → In all-offers file → library (numberOf file) ≡ file =
+    in-each all-offers (all-more two (all-more one (all-more one (all-more two (all-more one (all-more one (all-more one (all-more two (all-more one all-none))))))))) in
+    record { there = λ file m own. each file m }
+
+pub small-is : heldMoved ≡ heldOf (reissueAt library chartSmall (shown heldMoved - shown small))
+small-is = unit-is small-bytes offers-bytes shelved moved-unit

@@ -1,7 +1,9 @@
 -- The updates of the small cell as they are offered to two units: in the wrong order, repeated, with a gap, with areas too short. Assumes nothing.
 use Prim.Native.Nat.{ℕ}
+use mathlib.Core.Bool.{cond}
 use mathlib.Core.List.{List, [], _∷_}
 use lib.ListN.{replicate}
+use lib.Dec.{eqb}
 use Rattle.unit.specs.Unit.{Offer}
 use Rattle.witness.specs.SmallUpdates.{moving, deleting}
 
@@ -26,3 +28,7 @@ offers = lent deleting ∷ lent moving ∷ lent moving ∷ lent deleting ∷ []
 -- to the second: update 1 with areas too short, then in order, then update 1 once more
 abbrev pub others : List Offer
 others = narrow moving ∷ tight moving ∷ lent moving ∷ lent deleting ∷ lent moving ∷ []
+
+-- the two by their numbers
+unfoldable pub library : ℕ → List ℕ
+library n = cond (eqb n 1) moving deleting
