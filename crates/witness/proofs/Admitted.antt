@@ -3,7 +3,7 @@ use Prim.Native.Nat.{ℕ, _≤_}
 use mathlib.Core.List.{List, _++_}
 use mathlib.Core.Path.{_≡_, refl, ap, _∙_}
 use native.Mathlib.Omega.{arith}
-use lib.ListN.{length, drop}
+use lib.ListN.{length, drop, length-replicate}
 use Rattle.reader.specs.Reader.{answer}
 use Rattle.reader.specs.declared.answer.Answer.{Answer}
 use Rattle.held.specs.Held.{heldOf}
@@ -12,6 +12,7 @@ use Rattle.demands.specs.Cell.{Bytes, recordsIn, countIn, cellChart}
 use Rattle.demands.proofs.Admit.{Admissible, admitted-exactly, admit-writes}
 use Rattle.witness.specs.SmallCell.{small}
 use Rattle.witness.specs.SmallUpdates.{heldSmall}
+use Rattle.witness.specs.SmallOffers.{room}
 use Rattle.witness.proofs.Computing.{judging, admitting, smallFiles}
 use Rattle.witness.proofs.BytesLaws.{isByte, bytes-tested}
 
@@ -36,6 +37,11 @@ small-count = refl
 pub held-length : length heldSmall ≡ 2077
 unfolding judging admitting smallFiles
 held-length = refl
+
+-- the output area that is lent to the calls
+pub room-length : length room ≡ 2077
+unfolding room
+room-length = length-replicate {A = ℕ} 2077 0
 
 -- ---- whatever areas suffice
 accepted : admitOf small 112 2077 .code ≡ 0

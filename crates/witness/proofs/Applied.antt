@@ -12,7 +12,7 @@ use Rattle.held.specs.Held.{heldOf}
 use Rattle.held.specs.Limits.{recordCount}
 use Rattle.changes.specs.Amend.{changeFault}
 use Rattle.loader.specs.Apply.{applyOf, applyArea}
-use Rattle.demands.specs.Cell.{Bytes, recordsIn}
+use Rattle.demands.specs.Cell.{Bytes, recordsIn, cellChart}
 use Rattle.demands.specs.Update.{changesIn, fileChange, Allowed}
 use Rattle.demands.specs.ByteChart.{Whole}
 use Rattle.demands.proofs.Apply.{accepted-readable, accepted-exactly}
@@ -57,17 +57,17 @@ unfolding judging admitting applying smallFiles recordsIn
 early = refl
 
 -- records and places
-pub small-count : recordCount chartSmall ≡ 7
+pub small-records : recordCount chartSmall ≡ 7
 unfolding judging admitting smallFiles recordsIn
-small-count = refl
+small-records = refl
 
-pub moved-count : recordCount chartMoved ≡ 7
+pub moved-records : recordCount chartMoved ≡ 7
 unfolding judging admitting applying smallFiles recordsIn
-moved-count = refl
+moved-records = refl
 
-pub deleted-count : recordCount chartDeleted ≡ 6
+pub deleted-records : recordCount chartDeleted ≡ 6
 unfolding judging admitting applying smallFiles recordsIn
-deleted-count = refl
+deleted-records = refl
 
 pub moving-count : changesIn moving ≡ 3
 unfolding judging smallFiles recordsIn
@@ -89,10 +89,11 @@ held-lengths = (refl, refl)
 pub small-whole : Whole chartSmall
 small-whole = whole-admitted small 112 2077 small-bytes .0 (small-accepted 112 2077 (omega arith) (omega arith)) .1
 
+pub moves-code : applyOf small moving 160 2077 .code ≡ 0
+moves-code = ap (λ (a : Answer). a .code) moves
+
 pub moving-allowed : Allowed chartSmall moving
-moving-allowed =
-    let h : applyOf small moving 160 2077 .code ≡ 0 = ap (λ (a : Answer). a .code) moves in
-    accepted-exactly small moving 160 2077 small-bytes moving-bytes (accepted-readable small moving 160 2077 h) .0 h .0
+moving-allowed = accepted-exactly small moving 160 2077 small-bytes moving-bytes (accepted-readable small moving 160 2077 moves-code) .0 moves-code .0
 
 pub moved-whole : Whole chartMoved
 moved-whole = next-whole chartSmall small-whole heldSmall small-held moving moving-bytes moving-allowed heldMoved moved-held
@@ -113,42 +114,52 @@ deleted-whole = next-whole chartMoved moved-whole heldMoved moved-held deleting 
 pub moving-accepted : (w o : ℕ) → 160 ≤ w → 2077 ≤ o → applyOf heldSmall moving w o .code ≡ 0
 moving-accepted w o work room =
     accepted-here chartSmall small-whole heldSmall small-held moving moving-bytes moving-allowed heldMoved moved-held w o
-    (omega (arith, small-count, moving-count)) (omega (arith, held-lengths .0))
+    (omega (arith, small-records, moving-count)) (omega (arith, held-lengths .0))
 
 pub moving-applied : (w : ℕ) (out : List ℕ) → 160 ≤ w → 2077 ≤ length out
     → (applyOf heldSmall moving w (length out) ≡ answer 0 0 0 2077 0) × (applyArea heldSmall moving w out ≡ heldMoved ++ drop 2077 out)
 moving-applied w out work room =
     rw (held-lengths .0) at
     (written-here chartSmall small-whole heldSmall small-held moving moving-bytes moving-allowed heldMoved moved-held w out
-    (omega (arith, small-count, moving-count)) (omega (arith, held-lengths .0)))
+    (omega (arith, small-records, moving-count)) (omega (arith, held-lengths .0)))
 
 pub deleting-accepted : (w o : ℕ) → 160 ≤ w → 1986 ≤ o → applyOf heldMoved deleting w o .code ≡ 0
 deleting-accepted w o work room =
     accepted-here chartMoved moved-whole heldMoved moved-held deleting deleting-bytes deleting-allowed heldDeleted deleted-held w o
-    (omega (arith, moved-count, deleting-count)) (omega (arith, held-lengths .1))
+    (omega (arith, moved-records, deleting-count)) (omega (arith, held-lengths .1))
 
 pub deleting-applied : (w : ℕ) (out : List ℕ) → 160 ≤ w → 1986 ≤ length out
     → (applyOf heldMoved deleting w (length out) ≡ answer 0 0 0 1986 0) × (applyArea heldMoved deleting w out ≡ heldDeleted ++ drop 1986 out)
 deleting-applied w out work room =
     rw (held-lengths .1) at
     (written-here chartMoved moved-whole heldMoved moved-held deleting deleting-bytes deleting-allowed heldDeleted deleted-held w out
-    (omega (arith, moved-count, deleting-count)) (omega (arith, held-lengths .1)))
+    (omega (arith, moved-records, deleting-count)) (omega (arith, held-lengths .1)))
 
 -- ---- out of order
 -- update 2 before update 1
 pub deleting-early : (w o : ℕ) → 160 ≤ w → applyOf heldSmall deleting w o ≡ answer 11 2 1 0 424
 deleting-early w o work =
-    not-following chartSmall small-whole heldSmall small-held deleting (deleting-allowed .reads) early w o (omega (arith, small-count, deleting-count))
+    not-following chartSmall small-whole heldSmall small-held deleting (deleting-allowed .reads) early w o (omega (arith, small-records, deleting-count))
     ∙ ap (answer 11 2 1 0) (places .1)
 
 -- update 1 a second time
 pub moving-again : (w o : ℕ) → 160 ≤ w → applyOf heldMoved moving w o ≡ answer 11 2 1 0 438
 moving-again w o work =
-    again-here chartSmall small-whole heldSmall small-held moving moving-bytes moving-allowed heldMoved moved-held w o (omega (arith, moved-count, moving-count))
+    again-here chartSmall small-whole heldSmall small-held moving moving-bytes moving-allowed heldMoved moved-held w o (omega (arith, moved-records, moving-count))
     ∙ ap (answer 11 2 1 0) (places .0)
 
 -- update 2 a second time
 pub deleting-again : (w o : ℕ) → 144 ≤ w → applyOf heldDeleted deleting w o ≡ answer 11 2 1 0 424
 deleting-again w o work =
-    again-here chartMoved moved-whole heldMoved moved-held deleting deleting-bytes deleting-allowed heldDeleted deleted-held w o (omega (arith, deleted-count, deleting-count))
+    again-here chartMoved moved-whole heldMoved moved-held deleting deleting-bytes deleting-allowed heldDeleted deleted-held w o (omega (arith, deleted-records, deleting-count))
     ∙ ap (answer 11 2 1 0) (places .1)
+
+-- ---- what the held forms mean
+pub small-means : cellChart heldSmall ≡ chartSmall
+small-means = held-means chartSmall small-whole heldSmall small-held
+
+pub moved-means : cellChart heldMoved ≡ chartMoved
+moved-means = held-means chartMoved moved-whole heldMoved moved-held
+
+pub deleted-means : cellChart heldDeleted ≡ chartDeleted
+deleted-means = held-means chartDeleted deleted-whole heldDeleted deleted-held

@@ -1,4 +1,4 @@
--- What the calls do with the small files: Judged, Admitted, Applied and Wrong are what the owner reads.
+-- What the calls do with the small files: all but Computing and the laws are what the owner reads.
 pub mod Computing
 pub mod BytesLaws
 pub mod HeldLaws
@@ -6,5 +6,6 @@ pub mod Judged
 pub mod Admitted
 pub mod Applied
 pub mod Wrong
+pub mod Demand2
 pub mod Offered
 pub mod Units

@@ -4,7 +4,7 @@ use Prim.Native.Nat.{ℕ, _+_}
 use mathlib.Core.List.{List, [], _∷_}
 use mathlib.Core.Path.{_≡_, refl, ap, _∙_}
 use native.Mathlib.Omega.{arith}
-use lib.ListN.{length, length-replicate}
+use lib.ListN.{length}
 use Rattle.reader.specs.declared.answer.Answer.{Answer}
 use Rattle.held.specs.Chart.{Chart}
 use Rattle.held.specs.Held.{heldOf}
@@ -22,32 +22,23 @@ use Rattle.witness.specs.SmallCell.{small}
 use Rattle.witness.specs.SmallUpdates.{moving, deleting, chartSmall, chartMoved, chartDeleted, heldSmall, heldMoved, heldDeleted}
 use Rattle.witness.specs.SmallOffers.{room, lent, narrow, tight, offers, others}
 use Rattle.witness.proofs.Computing.{judging, admitting, applying, smallFiles}
+use Rattle.witness.proofs.Admitted.{room-length, small-held, small-accepted}
+use Rattle.witness.proofs.Applied.{small-means, moved-means, deleted-means, moving-bytes, deleting-bytes, small-whole, moved-whole, deleted-whole, moved-held}
+use Rattle.witness.proofs.Applied.{deleted-held, small-records, moving-count, moved-records, moving-accepted, deleting-accepted, held-lengths}
 use Rattle.witness.proofs.HeldLaws.{held-is-bytes, held-is-readable, held-means, held-records}
-use Rattle.witness.proofs.Admitted.{small-held, small-accepted}
-use Rattle.witness.proofs.Applied.{moving-bytes, deleting-bytes, small-whole, moved-whole, deleted-whole, moved-held, deleted-held, small-count, moving-count}
-use Rattle.witness.proofs.Applied.{moved-count, moving-accepted, deleting-accepted, held-lengths}
-
-pub room-length : length room ≡ 2077
-unfolding room
-room-length = length-replicate {A = ℕ} 2077 0
 
 -- ---- numbers
 pub numbers : (chartNumber chartSmall ≡ 0) × (chartNumber chartMoved ≡ 1) × (chartNumber chartDeleted ≡ 2) × (numberOf moving ≡ 1) × (numberOf deleting ≡ 2)
 unfolding numberOf judging admitting applying smallFiles recordsIn
 numbers = (refl, refl, refl, refl, refl)
 
-pub small-means : cellChart heldSmall ≡ chartSmall
-small-means = held-means chartSmall small-whole heldSmall small-held
-
-pub moved-means : cellChart heldMoved ≡ chartMoved
-moved-means = held-means chartMoved moved-whole heldMoved moved-held
-
-deleted-means : cellChart heldDeleted ≡ chartDeleted
-deleted-means = held-means chartDeleted deleted-whole heldDeleted deleted-held
-
 pub shown-each : (shown heldSmall ≡ 0) × (shown heldMoved ≡ 1) × (shown heldDeleted ≡ 2)
 unfolding shown
-shown-each = (ap (λ (c : Chart). chartNumber c) small-means ∙ numbers .0, ap (λ (c : Chart). chartNumber c) moved-means ∙ numbers .1, ap (λ (c : Chart). chartNumber c) deleted-means ∙ numbers .2)
+shown-each = (
+  ap (λ (c : Chart). chartNumber c) small-means ∙ numbers .0,
+  ap (λ (c : Chart). chartNumber c) moved-means ∙ numbers .1,
+  ap (λ (c : Chart). chartNumber c) deleted-means ∙ numbers .2,
+)
 
 -- ---- one offer
 -- a file whose number isn't the next leaves what is held
@@ -86,7 +77,7 @@ short o is not =
     (held-is-readable chartSmall small-whole heldSmall small-held) .0 (rw is at h) .1))
 
 few-work : offered heldSmall (narrow moving) ≡ heldSmall
-few-work = short (narrow moving) refl (λ a. let r = held-records chartSmall small-whole heldSmall small-held in omega (arith, a .work, small-count, moving-count))
+few-work = short (narrow moving) refl (λ a. let r = held-records chartSmall small-whole heldSmall small-held in omega (arith, a .work, small-records, moving-count))
 
 no-output : offered heldSmall (tight moving) ≡ heldSmall
 no-output =
@@ -123,7 +114,7 @@ after-others = rw (begins, few-work, no-output, first-taken, second-taken, too-l
 pub moved-accepted : admitOf heldMoved 112 (length room) .code ≡ 0
 moved-accepted =
     ap (λ (a : Answer). a .code)
-    (rw moved-held at (held-admitted chartMoved (moved-whole .good) 112 room (omega (arith, moved-count)) (omega (arith, ap length moved-held, held-lengths .0, room-length))))
+    (rw moved-held at (held-admitted chartMoved (moved-whole .good) 112 room (omega (arith, moved-records)) (omega (arith, ap length moved-held, held-lengths .0, room-length))))
 
 begins-again : admitWrote heldMoved 112 room ≡ heldMoved
 begins-again = admit-wrote heldMoved 112 room moved-accepted ∙ ap heldOf moved-means ∙ moved-held

@@ -26,12 +26,11 @@ use Rattle.unit.proofs.StepLaws.{unit-steps, unit-takes, unit-gap, unit-earlier
 use Rattle.witness.specs.SmallCell.{small}
 use Rattle.witness.specs.SmallUpdates.{moving, deleting, chartSmall, chartMoved, heldSmall, heldMoved, heldDeleted}
 use Rattle.witness.specs.SmallOffers.{room, lent, tight, offers, others, library}
-use Rattle.witness.proofs.HeldLaws.{held-is-bytes, held-is-readable}
-use Rattle.witness.proofs.Admitted.{small-bytes, small-held}
-use Rattle.witness.proofs.Applied.{moving-bytes, deleting-bytes, small-whole, moved-whole, moved-held, moving-allowed, deleting-allowed, moving-accepted}
+use Rattle.witness.proofs.Admitted.{room-length, small-bytes, small-held}
+use Rattle.witness.proofs.Applied.{small-means, moving-bytes, deleting-bytes, small-whole, moved-whole, moved-held, moving-allowed, deleting-allowed, moving-accepted}
 use Rattle.witness.proofs.Applied.{deleting-accepted}
-use Rattle.witness.proofs.Offered.{room-length, numbers, small-means, shown-each, first-taken, room-accepted, begins, after-each, after-others, moved-accepted}
-use Rattle.witness.proofs.Offered.{again-others}
+use Rattle.witness.proofs.HeldLaws.{held-is-bytes, held-is-readable}
+use Rattle.witness.proofs.Offered.{numbers, shown-each, first-taken, room-accepted, begins, after-each, after-others, moved-accepted, again-others}
 
 -- ---- the premises of demand 3: the files are bytes, and of those offered to any unit there is one to a number
 abbrev all-offers : List Offer

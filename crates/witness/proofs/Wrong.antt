@@ -4,7 +4,7 @@ use Prim.Native.Nat.{ℕ}
 use mathlib.Core.List.{List, [], _++_, map}
 use mathlib.Core.Path.{_≡_, refl, sym, ap, _∙_}
 use native.Mathlib.Omega.{arith}
-use lib.ListN.{length, drop, getD, length-replicate}
+use lib.ListN.{length, drop, getD}
 use lib.Seq.{take-at}
 use Rattle.reader.specs.Reader.{answer}
 use Rattle.reader.specs.declared.answer.Answer.{Answer}
@@ -18,20 +18,14 @@ use Rattle.demands.proofs.ReadsBack.{held-admitted, held-again}
 use Rattle.demands.proofs.Admit.{admit-writes}
 use Rattle.demands.proofs.Apply.{apply-writes}
 use Rattle.witness.specs.SmallCell.{small}
-use Rattle.witness.specs.SmallUpdates.{moving, deleting, chartSmall, chartMoved, chartDeleted, heldSmall, heldMoved, heldDeleted}
+use Rattle.witness.specs.SmallUpdates.{moving, deleting, chartSmall, chartMoved, heldSmall, heldMoved, heldDeleted}
 use Rattle.witness.specs.SmallOffers.{room}
 use Rattle.witness.specs.Loaders.{Left, Admitter, Applier, wrote, KeepsAdmit, KeepsApply, AdmitsNothing, AppliesNothing, AdmitsAlike, AppliesAlike, WritesAlike, Copies}
 use Rattle.witness.specs.Loaders.{WorksAhead, InventsAdmitted, InventsApplied}
 use Rattle.witness.proofs.Computing.{judging, admitting, applying, smallFiles}
-use Rattle.witness.proofs.HeldLaws.{held-means}
-use Rattle.witness.proofs.Admitted.{small-held, small-admitted, held-length}
-use Rattle.witness.proofs.Applied.{small-whole, moved-whole, deleted-whole, moved-held, deleted-held, moved-count, deleted-count, held-lengths}
-use Rattle.witness.proofs.Applied.{moving-applied, deleting-applied, moving-again}
-
--- ---- the output area suffices for each
-room-length : length room ≡ 2077
-unfolding room
-room-length = length-replicate {A = ℕ} 2077 0
+use Rattle.witness.proofs.Admitted.{small-admitted, held-length, room-length}
+use Rattle.witness.proofs.Applied.{moved-whole, moved-held, moved-records, deleted-records, held-lengths, small-means, moved-means, deleted-means, moving-applied}
+use Rattle.witness.proofs.Applied.{deleting-applied, moving-again}
 
 code-of : {a b : Answer} → a ≡ b → a .code ≡ b .code
 code-of e = ap (λ (x : Answer). x .code) e
@@ -54,14 +48,15 @@ module _ {admit : Admitter} (keeps : KeepsAdmit admit) where
   moved-told : admit heldMoved 112 room .told ≡ answer 0 0 0 2077 0
   moved-told =
       keeps .told heldMoved 112 room
-      ∙ (rw moved-held at (held-admitted chartMoved (moved-whole .good) 112 room (omega (arith, moved-count)) (omega (arith, ap length moved-held, held-lengths .0, room-length))))
+      ∙ (rw moved-held at
+      (held-admitted chartMoved (moved-whole .good) 112 room (omega (arith, moved-records)) (omega (arith, ap length moved-held, held-lengths .0, room-length))))
       ∙ ap (λ (n : ℕ). answer 0 0 0 n 0) (held-lengths .0)
 
   moved-wrote : wrote (admit heldMoved 112 room) ≡ heldMoved
   moved-wrote =
       wrote-held (admit heldMoved 112 room) heldMoved (drop (length heldMoved) room) 2077 moved-told
       (keeps .area heldMoved 112 room
-      ∙ (rw moved-held at (held-again chartMoved (moved-whole .good) 112 room (omega (arith, moved-count)) (omega (arith, ap length moved-held, held-lengths .0, room-length)))))
+      ∙ (rw moved-held at (held-again chartMoved (moved-whole .good) 112 room (omega (arith, moved-records)) (omega (arith, ap length moved-held, held-lengths .0, room-length)))))
       (held-lengths .0)
 
   -- Number is how long the held form is, on every call that is accepted
@@ -94,17 +89,7 @@ module _ {apply : Applier} (keeps : KeepsApply apply) where
       let e = keeps .told cell file w out in
       ap (λ (x : Answer). x .number) (e ∙ apply-writes cell file w out (sym (code-of e) ∙ h) .answered)
 
--- ---- what the held cells mean
-small-means : cellChart heldSmall ≡ chartSmall
-small-means = held-means chartSmall small-whole heldSmall small-held
-
-moved-means : cellChart heldMoved ≡ chartMoved
-moved-means = held-means chartMoved moved-whole heldMoved moved-held
-
-deleted-means : cellChart heldDeleted ≡ chartDeleted
-deleted-means = held-means chartDeleted deleted-whole heldDeleted deleted-held
-
--- RVER of the second object, node 2
+-- ---- RVER of the second object, node 2
 unfoldable secondVersion : List Object → ℕ
 secondVersion ts = getD (map (λ (t : Object). t .version) ts) 1 0
 
@@ -173,7 +158,7 @@ not-ahead {apply} k wrong =
     let z = ap length (ap (λ (s : List ℕ). cellChart s .objects) (sym two) ∙ e ∙ ap (λ (s : List ℕ). cellChart s .objects) one) in
     let a = ap (λ (c : Chart). length (c .objects)) moved-means in
     let b = ap (λ (c : Chart). length (c .objects)) deleted-means in
-    omega (arith, moved-count, deleted-count)
+    omega (arith, moved-records, deleted-records)
 
 -- ---- "an invented length"
 pub not-invented-admitted : {admit : Admitter} → KeepsAdmit admit → InventsAdmitted admit → ⊥

@@ -2,8 +2,8 @@
 use Prim.Native.Nat.{ℕ}
 use mathlib.Core.List.{List, [], _∷_, flatten}
 use Rattle.table.specs.Text.{bytes}
-use Rattle.witness.specs.Records.{fieldEnd, declared, declaredFirst, declaredDsid, declaredDssi, declaredVrid, declaredPairs, declaredFrid, declaredFoid}
-use Rattle.witness.specs.Records.{cellHeading, parameters, node, edge, feature}
+use Rattle.witness.specs.Records.{fieldEnd, declared, declaredFirst, declaredDsid, declaredDssi, declaredVrid, declaredPairs, declaredFrid, declaredFoid, cellHeading}
+use Rattle.witness.specs.Records.{parameters, node, edge, feature}
 
 -- record 0, which declares the tags that are used
 unfoldable pub cellFirst : List ℕ

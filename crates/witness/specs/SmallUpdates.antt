@@ -7,9 +7,9 @@ use Rattle.header.specs.First.{firstRecord}
 use Rattle.held.specs.Chart.{Chart}
 use Rattle.demands.specs.Cell.{cellChart}
 use Rattle.demands.specs.Update.{updatedBy}
-use Rattle.witness.specs.Records.{fieldEnd, declared, declaredFirst, declaredDsid, declaredDssi, declaredVrid, declaredPairs, declaredFrid, declaredFoid}
+use Rattle.witness.specs.Records.{fieldEnd, declared, declaredFirst, declaredDsid, declaredDssi, declaredVrid, declaredPairs, declaredFrid, declaredFoid, cellHeading}
+use Rattle.witness.specs.Records.{updateHeading, parameters, vrid, pair, node, edge, frid, foid, feature}
 use Rattle.witness.specs.SmallCell.{small}
-use Rattle.witness.specs.Records.{cellHeading, updateHeading, parameters, vrid, pair, node, edge, frid, foid, feature}
 
 -- ---- update 1 moves node 2: a modify, whose SGCC replaces its one pair
 unfoldable pub moving : List ℕ
