@@ -49,3 +49,10 @@ void print_bytes(const uint8_t *bytes, size_t length)
         printf("%s%02x", i == 0 ? "    " : i % 32 == 0 ? "\n    " : " ", bytes[i]);
     printf("%s\n", shown < length ? " .." : "");
 }
+
+/* It takes the largest block that was given back, up to 32 MB, for a measure of what is worth keeping. */
+void keep_memory(void)
+{
+    enum { ALMOST_32_MB = (32 << 20) - 65536 };
+    free(grow(NULL, ALMOST_32_MB, 1));
+}

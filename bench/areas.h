@@ -25,4 +25,7 @@ void put_words(uint8_t *area, const uint32_t *word, size_t count);
 
 void print_bytes(const uint8_t *bytes, size_t length);
 
+/* For a program that lends many areas, at its start: glibc then keeps the memory that is given back, where it would ask the system for it anew at each call. */
+void keep_memory(void);
+
 #endif

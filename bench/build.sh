@@ -30,12 +30,16 @@ compare_read probe
 compare_show probe
 compare_judge loader
 compare_admit loader
+compare_apply loader
 boundary_judge loader
 boundary_admit loader
+boundary_apply loader
+offers loader
 speed_frame probe
 speed_read probe
 speed_judge loader
 speed_admit loader
+speed_apply loader
 '
 
 # What every program may use: the reader, the generator, and what the programs share.

@@ -354,6 +354,7 @@ int run_apply_cases(const struct loader *candidate, int words, char **word)
     uint64_t seeds = words > 1 ? strtoull(word[1], NULL, 10) : DEFAULT_SEEDS;
     uint64_t first = words > 2 ? strtoull(word[2], NULL, 10) : 0;
     struct tally tally = {0};
+    keep_memory();
     list_kinds(&tally);
     for (size_t i = 0; i < sheet_rows(); i++)
         run_made(&tally, candidate, sheet_row_make(i), i);

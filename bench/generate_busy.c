@@ -173,6 +173,17 @@ static struct chart_pair make_appended(struct random *random)
     return pair;
 }
 
+/* As many as there are labels left: records that no held form takes. */
+static struct chart_pair make_overlong(struct random *random)
+{
+    struct chart_pair pair = bare_pair(random);
+    for (uint32_t id = 1; id <= LABEL_LISTS; id++) {
+        put_labels(put_feature(&pair.cell, id, 255, 400, id), 0, 33000, false, "");
+        put_labels(modify_last(&pair, random), 33000, 32536, true, "");
+    }
+    return pair;
+}
+
 static struct chart_pair make_removed(struct random *random)
 {
     struct chart_pair pair = bare_pair(random);
@@ -363,7 +374,7 @@ static struct chart_pair make_last_held(struct random *random)
 static const struct heavy {
     const char *name;
     struct chart_pair (*make)(struct random *random);
-    uint32_t code; /* of the update's last record, if not 0 */
+    uint32_t code; /* of the update's last record, or of the result's size, if not 0 */
 } heavies[] = {
     {"ordinary: 28,000 records, 500 in the update", make_ordinary_step, 0},
     {"each of 28,000 records modified", make_touched, 0},
@@ -379,6 +390,7 @@ static const struct heavy {
     {"34 lists of 8,900 FFPT in 300 fields, the last modified", make_relations, 0},
     {"50 lists of 4,900 in as many fields, 4,900 more", make_apart, 0},
     {"50 lists of 6,000 attributes in as many fields", make_apart_labels, 0},
+    {"52 lists of 33,000 attributes get 32,536 others", make_overlong, CODE_SIZE},
     {"60,000 inserts, the last of a held name", make_last_held, CODE_TARGET},
     {"52 lists of attributes, the last removal finds none", make_not_removed, CODE_EDIT},
 };
@@ -410,6 +422,8 @@ struct apply_case heavy_apply_make(size_t index)
     struct chart_pair pair = heavy->make(&random);
     if (heavy->code == CODE_DONE)
         made.held = held_of_chart(&pair.result);
+    else if (heavy->code == CODE_SIZE)
+        made.verdict = (struct answer){.code = CODE_SIZE, .file = 3};
     else
         made.verdict = (struct answer){.code = heavy->code, .file = 2, .record = (uint32_t)pair.update.list.count - 1};
     made.cell = write_plain(&pair.cell, &random, &made.records);

@@ -24,6 +24,6 @@ program() { # NAME WORDS..
 }
 
 program judge judge.c common.c
-program unit unit.c keep.c common.c
-program unit_faults unit.c keep.c common.c faults.c \
-    -Wl,--wrap=openat,--wrap=write,--wrap=fsync,--wrap=close,--wrap=renameat,--wrap=unlinkat
+program unit unit.c keep.c shown.c common.c
+program unit_faults unit.c keep.c shown.c common.c faults.c \
+    -Wl,--wrap=openat,--wrap=read,--wrap=write,--wrap=fsync,--wrap=close,--wrap=renameat,--wrap=unlinkat

@@ -14,4 +14,7 @@ int read_file(const char *path, uint8_t *bytes, size_t room, size_t *length);
    which is another one for each call. */
 void say(const char *path, const char *done, struct s57_answer answer);
 
+/* The end of such a line alone, behind a sentence of the host's own: the code and where it was met. */
+void say_where(struct s57_answer answer);
+
 #endif

@@ -1,9 +1,9 @@
 /* For the tests: linked into a copy of unit, unit_faults, it stands between keep.c and the system (the linker's --wrap) and counts the steps in which a
-   chart is replaced. What $FAULT says happens at one of them:
+   chart is read and replaced. What $FAULT says happens at one of them:
      list    nothing; all steps are named on standard error
      kill N  just before step N, from 1, the program ends as by a power cut
      fail N  step N fails, and isn't done
-   Each write writes a little only, and every other one is interrupted before it has written anything. */
+   Each read reads a little only, and each write writes a little only, and every other one is interrupted before it has done anything. */
 #define _POSIX_C_SOURCE 200809L
 #include <errno.h>
 #include <fcntl.h>
@@ -13,9 +13,10 @@
 #include <string.h>
 #include <unistd.h>
 
-enum { SHORT_WRITE = 3000 };
+enum { SHORT = 3000 };
 
 int __real_openat(int folder, const char *name, int flags, mode_t mode);
+ssize_t __real_read(int file, void *bytes, size_t length);
 ssize_t __real_write(int file, const void *bytes, size_t length);
 int __real_fsync(int file);
 int __real_close(int file);
@@ -43,6 +44,16 @@ int __wrap_openat(int folder, const char *name, int flags, mode_t mode)
     return fails("openat", EACCES) ? -1 : __real_openat(folder, name, flags, mode);
 }
 
+ssize_t __wrap_read(int file, void *bytes, size_t length)
+{
+    static int interrupted;
+    if (fails("read", EIO))
+        return -1;
+    interrupted = !interrupted;
+    errno = EINTR;
+    return interrupted ? -1 : __real_read(file, bytes, length < SHORT ? length : SHORT);
+}
+
 ssize_t __wrap_write(int file, const void *bytes, size_t length)
 {
     static int interrupted;
@@ -50,7 +61,7 @@ ssize_t __wrap_write(int file, const void *bytes, size_t length)
         return -1;
     interrupted = !interrupted;
     errno = EINTR;
-    return interrupted ? -1 : __real_write(file, bytes, length < SHORT_WRITE ? length : SHORT_WRITE);
+    return interrupted ? -1 : __real_write(file, bytes, length < SHORT ? length : SHORT);
 }
 
 int __wrap_fsync(int file)

@@ -7,9 +7,14 @@
 #include <sys/file.h>
 #include <unistd.h>
 
+int keep_look(const char *path)
+{
+    return open(path, O_RDONLY | O_DIRECTORY | O_CLOEXEC);
+}
+
 int keep_open(const char *path)
 {
-    int folder = open(path, O_RDONLY | O_DIRECTORY | O_CLOEXEC);
+    int folder = keep_look(path);
     if (folder < 0)
         return -1;
     if (flock(folder, LOCK_EX | LOCK_NB) != 0) {
@@ -21,6 +26,26 @@ int keep_open(const char *path)
     /* Mostly there is none. One that can't be removed is met again by keep_replace, which then fails. */
     unlinkat(folder, KEEP_PART, 0);
     return folder;
+}
+
+/* A read may be cut short or interrupted too; the end of the file is a read of nothing. */
+int keep_read(int folder, uint8_t *bytes, size_t room, size_t *length)
+{
+    int file = openat(folder, KEEP_NAME, O_RDONLY | O_CLOEXEC, 0);
+    if (file < 0)
+        return 0;
+    ssize_t got = 1;
+    for (*length = 0; got != 0 && *length < room; *length += (size_t)got) {
+        do
+            got = read(file, bytes + *length, room - *length);
+        while (got < 0 && errno == EINTR);
+        if (got < 0)
+            break;
+    }
+    int why = errno;
+    close(file);
+    errno = why;
+    return got >= 0;
 }
 
 /* A write may be cut short or interrupted with part of the bytes written; a disk that is full says so at the next one. */

@@ -15,6 +15,14 @@
    failed, and errno says why, EWOULDBLOCK that another run has it. */
 int keep_open(const char *path);
 
+/* The same for a run that only reads: it neither locks the folder nor removes anything, so it works beside a run that writes, and on a disk that can't
+   be written to. Not for keep_replace. */
+int keep_look(const char *path);
+
+/* The chart's bytes, as many as fit into `room`: the old ones or the new ones, whole, also while another run replaces them. False where they can't be
+   read, and errno says why, ENOENT that the folder has no chart. */
+int keep_read(int folder, uint8_t *bytes, size_t room, size_t *length);
+
 /* What stands under the chart's name now. But for KEEP_NEW errno says what went wrong. */
 enum keep_end {
     KEEP_NEW,   /* the new bytes, and the disk has them */

@@ -21,9 +21,10 @@ sentence() { # CODE
 
 # What a host says of a file that is refused.
 refusal() { # PATH CODE FILE RECORD
-    local what=record
+    local what=record after=''
     [[ $2 != 1[789] ]] || what=place
-    echo "$1: $(sentence "$2") (code $2, file $3, $what $4)"
+    [[ $2.$3 != 1[789].3 ]] || after='With this update the chart would be wrong. '
+    echo "$1: $after$(sentence "$2") (code $2, file $3, $what $4)"
 }
 
 # ---- cells made from the sample
@@ -229,32 +230,36 @@ killed() { # OLD NEW STEPS WORDS..
     done
 }
 
-# What unit comes to where a step fails: sets `status`, `line`, `left`. The first step only removes what another run left; after the last but one the new
-# chart is in its place.
-failure() { # NAME LAST
+# What unit comes to where a step fails: sets `status`, `line`, `left`. The first step only removes what another run left, and one that closes the old
+# chart has read it already; after the last but one the new chart is in its place.
+failure() { # NAME WHILE-READING LAST
     local why='Input/output error'
     case $1 in
     openat) why='Permission denied' ;;
     write) why='No space left on device' ;;
     esac
     status=2 left=$old line=$(unwritten "$folder" "$why")
-    if [ "$1" = unlinkat ]; then
+    if [ "$1" = unlinkat ] || { $2 && [ "$1" = close ]; }; then
         status=0 left=$new line=$good
     elif $2; then
+        line="unit: the chart in $folder can't be read: $why"
+    elif $3; then
         left=$new
-        line="unit: $folder has the new chart, but it isn't sure to outlive a power cut: $why; do the same again"
+        line="unit: $folder has the new chart, but it isn't sure to outlive a power cut: $why; look with unit show after the next start"
     fi
 }
 
 # Failing at each step. GOOD is what unit says where nothing fails.
 failing() { # OLD NEW STEPS GOOD WORDS..
-    local old=$1 new=$2 steps=$3 good=$4 step=0 name last status line left
+    local old=$1 new=$2 steps=$3 good=$4 step=0 name last reading=false status line left
     shift 4
     last=$(echo "$steps" | wc -l)
+    [[ $steps != *read* ]] || reading=true
     for name in $steps; do
         step=$((step + 1))
-        failure "$name" "$([ $step -eq "$last" ] && echo true || echo false)"
+        failure "$name" $reading "$([ $step -eq "$last" ] && echo true || echo false)"
         says "$status" "$line" faulty "fail $step" "$old" "$@"
         check "$unit $1, step $step, $name, failed: the chart isn't $left, or not alone" holds "$folder" "$left"
+        [ "$name" != close ] || reading=false
     done
 }

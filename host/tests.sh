@@ -1,7 +1,8 @@
 #!/bin/bash
 # Builds the example hosts and looks at what they say of the sample cell and of broken copies of it, and at their exit status; then at what unit leaves in its
-# folder: after refusals, on a full disk, and cut off by force at random moments and before each of its steps. The last line is 'N passed, M failed'; the
-# status is 0 only where nothing failed. Wants what host/Makefile wants, and on Debian installs make where it is missing.
+# folder, where it takes a base and where it is offered updates: after refusals, on a full disk, and cut off by force at random moments and before each of
+# its steps; and at two folders that are offered files at random. The last line is 'N passed, M failed'; the status is 0 only where nothing failed. Wants what
+# host/Makefile wants, and on Debian installs make where it is missing.
 set -u
 if ! cd "$(dirname "$0")/.." || ! . bench/count.sh || ! . bench/compiler.sh; then
     echo '0 passed, 1 failed'
@@ -42,7 +43,7 @@ says 2 'usage: judge CELL' $judge
 # ---- the sentences: those of docs/CODES.md, word for word, also of codes that no test here meets
 
 tr -d '\n' <host/common.c | sed 's/" *"//g' >"$copies/sentences"
-for code in {1..8} {17..21}; do
+for code in {1..21}; do
     check "host/common.c doesn't say what docs/CODES.md has for $code" grep -qF "\"$(sentence "$code")\"" "$copies/sentences"
 done
 
@@ -50,4 +51,8 @@ done
 
 # shellcheck source=tests_admit.sh
 . host/tests_admit.sh
+# shellcheck source=tests_offer.sh
+. host/tests_offer.sh
+# shellcheck source=tests_random.sh
+. host/tests_random.sh
 close

@@ -13,7 +13,10 @@ check "the re-issue of the folder's own chart is another" cmp "$copies/harbour.h
 # ---- nothing changes
 
 held=$copies/harbour.held
-usage='usage: unit admit BASE FOLDER'
+usage='usage: unit admit BASE FOLDER
+usage: unit offer UPDATE FOLDER
+usage: unit follow FOLDER UPDATE..
+usage: unit show FOLDER'
 
 keeps 1 "$(refusal "$copies/cut.000" 2 1 62)" admit "$copies/cut.000" "$folder"
 keeps 1 "$(refusal "$copies/long.000" 1 1 0)" admit "$copies/long.000" "$folder"
