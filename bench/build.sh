@@ -28,18 +28,18 @@ compare_listing alone
 compare_frame probe
 compare_read probe
 compare_show probe
-compare_judge loader
-compare_admit loader
-compare_apply loader
-boundary_judge loader
-boundary_admit loader
-boundary_apply loader
-offers loader
+compare_judge s57
+compare_admit s57
+compare_apply s57
+boundary_judge s57
+boundary_admit s57
+boundary_apply s57
+offers s57
 speed_frame probe
 speed_read probe
-speed_judge loader
-speed_admit loader
-speed_apply loader
+speed_judge s57
+speed_admit s57
+speed_apply s57
 '
 
 # What every program may use: the reader, the generator, and what the programs share.
