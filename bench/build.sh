@@ -23,31 +23,33 @@ sanitize_read alone
 sanitize_judge alone
 sanitize_admit alone
 sanitize_apply alone
+sanitize_show alone
 compare_listing alone
 compare_frame probe
 compare_read probe
-compare_judge loader
-compare_admit loader
-compare_apply loader
-boundary_judge loader
-boundary_admit loader
-boundary_apply loader
-offers loader
+compare_show probe
+compare_judge s57
+compare_admit s57
+compare_apply s57
+boundary_judge s57
+boundary_admit s57
+boundary_apply s57
+offers s57
 speed_frame probe
 speed_read probe
-speed_judge loader
-speed_admit loader
-speed_apply loader
+speed_judge s57
+speed_admit s57
+speed_apply s57
 '
 
 # What every program may use: the reader, the generator, and what the programs share.
 reader='reader_frame reader_formats reader_table reader_describe reader_layout reader_values reader_names reader_read
-    reader_topology reader_listing reader_first reader_items reader_held reader_edits reader_apply'
+    reader_topology reader_listing reader_first reader_items reader_held reader_edits reader_apply reader_show'
 generator='generate_frame generate_broken generate_large generate_formats generate_chart generate_describe generate_scene
     generate_update faults_describe faults_layout faults_values faults_names generate_read generate_damage generate_hostile
     generate_judge generate_heavy faults_topology generate_listing generate_held generate_admit generate_limits
-    generate_pair generate_back generate_series faults_update generate_apply generate_busy generate_grown generate_sheet'
-shared='buffer areas boundary tally speed check_held cover_apply cases_frame cases_read cases_judge cases_admit cases_apply'
+    generate_pair generate_back generate_series faults_update generate_apply generate_busy generate_grown generate_sheet generate_show'
+shared='buffer areas boundary tally speed check_held cover_apply cases_frame cases_read cases_judge cases_admit cases_apply cases_show'
 
 # shellcheck source=compiler.sh
 . "$here/compiler.sh"

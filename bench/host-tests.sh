@@ -1,6 +1,6 @@
 #!/bin/bash
 # The host tests: C programs, those that look at proved code linked with the archive of the crate
-# `probe` or `loader`, or running the program `listing`; then the example host. Builds them, runs each,
+# `probe` or `s57`, or running the program `listing`; then the example host. Builds them, runs each,
 # and adds up what they count; the last line is 'N passed, M failed', and the status is 0 only where
 # nothing failed. Wants `rt`, and the compilers that .ci/run installs.
 #
@@ -20,7 +20,7 @@ export BENCH_OUT=$PWD/target/bench
 # ---- build, from nothing
 rm -rf "$BENCH_OUT" "$archives" target/host
 mkdir -p "$BENCH_OUT"
-for crate in probe loader; do
+for crate in probe s57; do
     if ! rt staticlib "$crate" || [ ! -f "$archives/lib$crate.a" ]; then
         fault "rt staticlib $crate made no $archives/lib$crate.a"
     fi

@@ -28,4 +28,10 @@ uint32_t probe_read_cell(const uint8_t *cell, size_t len, uint8_t *work, size_t 
 uint32_t probe_read_both(const uint8_t *cell, size_t cell_len, const uint8_t *update, size_t update_len, uint8_t *work, size_t work_len,
                          uint8_t *answer, size_t answer_len);
 
+/* Show: the whole record of that name, of the update if it has one, else of the cell; an update of length 0 is none. Returns the part's length; an output of
+   at least that many bytes gets the part in front, and all else of it stays. An answer of exactly 16 bytes gets code, file, record and number; an area of
+   another length stays untouched. The work area is zero after every call. */
+size_t probe_show(const uint8_t *cell, size_t cell_len, const uint8_t *update, size_t update_len, uint8_t *work, size_t work_len, uint8_t *answer,
+                  size_t answer_len, uint8_t *out, size_t out_len, uint32_t class, uint32_t id);
+
 #endif

@@ -87,10 +87,11 @@ enum code {
     CODE_RING = 19,
     CODE_SIZE = 20,
     CODE_ROOM = 21,
+    CODE_ABSENT = 22,
 };
 
-/* File: 0 none, 1 cell, 2 update, 3 result. The number is the bytes of work area needed for 3, of output for 21, the bytes written for 0, else 0. The
-   offset is that of request (ii): where in its file the refusal's first wrong byte stands. */
+/* File: 0 none, 1 cell, 2 update, 3 result. The number is the bytes of work area needed for 3, of output for 21, the bytes written or shown for 0, else
+   0. The offset is that of request (ii): where in its file the refusal's first wrong byte stands. */
 struct answer {
     uint32_t code, file, record, number, offset;
 };
@@ -112,6 +113,17 @@ struct answer reader_admit(const uint8_t *cell, size_t length, size_t work_lengt
    the cell itself isn't judged. Where it gives 0, the held form of the result stands in the output as with Admit. */
 struct answer reader_apply(const uint8_t *cell, size_t cell_length, const uint8_t *update, size_t update_length, size_t work_length, uint8_t *out,
                            size_t out_length);
+
+/* Show: codes 1 to 8 as reader_read gives them, or with an update as reader_read_both does; an update of length 0 is none. Then 0, and the part is the whole
+   record of that name, of the update if it has one, else of the cell; or 22. The answer's number is the part's length; a refusal's part is the cell's
+   first 0 bytes. */
+struct shown {
+    struct answer answer;
+    const uint8_t *part;
+};
+
+struct shown reader_show(const uint8_t *cell, size_t cell_length, const uint8_t *update, size_t update_length, size_t work_length, uint32_t class,
+                         uint32_t id);
 
 struct buffer;
 

@@ -1,13 +1,13 @@
 #!/bin/sh
-# Links the example hosts with the archive of the crate `loader`; `make -C host` makes the archive first.
+# Links the example hosts with the archive of the crate `s57`; `make -C host` makes the archive first.
 # usage: host/build.sh [ARCHIVE]
-# ARCHIVE: default target/staticlib/libloader.a at the repository's top. The programs are target/host/judge and target/host/unit there, which host/judge.sh
+# ARCHIVE: default target/staticlib/libs57.a at the repository's top. The programs are target/host/judge and target/host/unit there, which host/judge.sh
 # and host/unit.sh run; and for host/tests.sh target/host/unit_faults, a unit that fails where it is told to.
 set -eu
 
 here=$(cd "$(dirname "$0")" && pwd -P)
 top=$(dirname "$here")
-archive=${1:-$top/target/staticlib/libloader.a}
+archive=${1:-$top/target/staticlib/libs57.a}
 # shellcheck source=../bench/compiler.sh
 . "$top/bench/compiler.sh"
 

@@ -1,7 +1,5 @@
--- Laws of `loader`: Judge's and Admit's order of codes in JudgeLaws and AdmitLaws, the answer for C in AnswerLaws and ReadLaws, that a promise has
--- one answer in Only.
+-- Laws of `loader`: Judge's and Admit's order of codes in JudgeLaws and AdmitLaws, the answer for C in AnswerLaws and ReadLaws.
 pub mod JudgeLaws
 pub mod AdmitLaws
 pub mod AnswerLaws
 pub mod ReadLaws
-pub mod Only

@@ -1,6 +1,6 @@
 // The proved code for C programs to call: wrappers that only host tests and benchmarks link. Each
-// takes any bytes of any length. It promises to nobody above; it takes the framing from `iso8211` and
-// reading whole from `reader`.
+// takes any bytes of any length. It promises to nobody above; it takes the framing from `iso8211`,
+// reading whole from `reader` and Show from `show`.
 ghost use Prim.Native.Nat.{_+_, _*_, _<_};
 ghost use mathlib.Core.Path.{_≡_};
 ghost use Rattle.iso8211.specs.File.{frameOf};
@@ -12,6 +12,7 @@ use iso8211::formats::write_out;
 
 pub mod described;
 pub mod fields;
+pub mod part;
 pub mod read;
 
 // How many records the file has, or which is the first bad one, as one number.

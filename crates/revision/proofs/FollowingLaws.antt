@@ -42,11 +42,11 @@ read-apart r t on h =
     (λ (b : eqb (t .index) 0 ≡ false). absurd (let z : _≡_ {A = ℕ} 7 0 = rw (a, b) at h in omega arith)) (true-or-false (eqb (t .index) 0)))
     (λ (a : eqb (r .code) 0 ≡ false). absurd (eqb-false (r .code) 0 a (rw a at h))) (true-or-false (eqb (r .code) 0))
 
-cell-parts : (s : List ℕ) (n : ℕ) → cellFault s n .code ≡ 0 → (readFault false s n .code ≡ 0) × (twiceOf false s n .index ≡ 0)
+pub cell-parts : (s : List ℕ) (n : ℕ) → cellFault s n .code ≡ 0 → (readFault false s n .code ≡ 0) × (twiceOf false s n .index ≡ 0)
 unfolding cellFault twiceRefusal
 cell-parts s n h = read-apart (readFault false s n) (twiceOf false s n) (countsRefusal s n) h
 
-update-parts : (s : List ℕ) (n : ℕ) → updateFault s n .code ≡ 0 → (readFault true s n .code ≡ 0) × (twiceOf true s n .index ≡ 0)
+pub update-parts : (s : List ℕ) (n : ℕ) → updateFault s n .code ≡ 0 → (readFault true s n .code ≡ 0) × (twiceOf true s n .index ≡ 0)
 unfolding updateFault twiceRefusal
 update-parts s n h = read-apart (readFault true s n) (twiceOf true s n) fine h
 

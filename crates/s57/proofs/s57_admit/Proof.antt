@@ -1,8 +1,8 @@
 -- The answer of `admit`, put into its area. Assumes nothing.
 use Rattle.loader.proofs.AnswerLaws.{told-code, told-area}
 use borrow.Author.Needs.{needs}
-use Rattle.loader.proofs.s57_admit.Statement.{statement}
-use Rattle.loader.proofs.s57_admit.Tie as tie
+use Rattle.s57.proofs.s57_admit.Statement.{statement}
+use Rattle.s57.proofs.s57_admit.Tie as tie
 
 admit-requires : tie.Need-admit-requires
 admit-requires c κs = search needs
@@ -20,7 +20,7 @@ same-length-3 : tie.Need-same-length-3
 same-length-3 c = search needs
 
 returns : tie.Need-returns
-returns c = (search (needs, told-code), (search (needs, told-area), (search needs, search needs)))
+returns c = record { code = search (needs, told-code); area = search (needs, told-area); output = search needs; zero = search needs }
 
 pub s57-admit-spec : {M : Type 1} → statement M
 s57-admit-spec =

@@ -1,0 +1,63 @@
+use Rattle.apply.proofs.MergeLaws.{changed-refused, changed-on, refused-kept, amending}
+use Rattle.apply.proofs.ResultLaws.{area-kept}
+use Rattle.apply.proofs.FrontLaws.{cell-headed, update-headed}
+use borrow.Author.Needs.{needs}
+use Rattle.apply.proofs.amended.changed.Statement.{statement}
+use Rattle.apply.proofs.amended.changed.Tie as tie
+use Rattle.apply.proofs.amended.changed.Reads as reads
+use Rattle.apply.proofs.amended.changed.Lts as lts
+use Rattle.apply.proofs.amended.amended_apart.Reads as amended-apart-reads
+use Rattle.chart.proofs.read.refuse.Reads as refuse-reads
+use Rattle.follow.proofs.follow_code.Reads as follow-code-reads
+use Rattle.follow.proofs.header_at.Reads as header-at-reads
+use Rattle.reader.proofs.answer.filed.Reads as filed-reads
+
+-- src/amended.rt:80:9
+follow-code-requires : tie.Need-follow-code-requires
+follow-code-requires c κs = (cell-headed (c .before .before .before .before .pre), update-headed (c .before .before .before .before .pre))
+
+-- src/amended.rt:82:41
+header-at-requires : tie.Need-header-at-requires
+header-at-requires c κs = update-headed (c .before .before .before .before .before .before .pre)
+
+-- src/amended.rt:82:25
+refuse-requires : tie.Need-refuse-requires
+refuse-requires c κs = search needs
+
+-- src/amended.rt:82:9
+filed-requires : tie.Need-filed-requires
+filed-requires c κs = search needs
+
+-- src/amended.rt:82:9
+returns : tie.Need-returns
+returns c = (changed-refused _ _ _ _ _ _ (c .before .before .before .before .follow-code .ensures _) _ _ _ (c .before .before .before .if1 .taken) (c .before .before .header-at .ensures .0) (c .before .refuse .ensures) (c .filed .ensures), area-kept _ _ _ (refused-kept _ _ _ _ _ (c .before .before .before .if1 .taken) (c .before .refuse .ensures) (c .filed .ensures)))
+
+-- src/amended.rt:84:5
+amended-apart-requires : tie.Need-amended-apart-requires
+amended-apart-requires c κs = amending _ (c .before .before .before .before .before .before .before .before .pre) (c .before .before .before .follow-code .ensures _) (c .before .before .if1 .left)
+
+-- src/amended.rt:75:1
+same-length : tie.Need-same-length
+same-length c = search needs
+
+-- src/amended.rt:75:1
+same-length-2 : tie.Need-same-length-2
+same-length-2 c = search needs
+
+-- src/amended.rt:75:1
+returns-2 : tie.Need-returns-2
+returns-2 c = (changed-on _ _ _ _ _ _ (c .before .before .before .before .before .before .before .before .follow-code .ensures _) _ (c .before .before .before .before .before .before .before .if1 .left) (c .before .before .before .before .amended-apart .ensures .0), c .before .before .before .before .amended-apart .ensures .1)
+
+pub changed-spec : {M : Type 1} → statement M
+changed-spec =
+    tie.close
+    (tie.spec
+    follow-code-requires
+    header-at-requires
+    refuse-requires
+    filed-requires
+    returns
+    amended-apart-requires
+    same-length
+    same-length-2
+    returns-2)

@@ -1,0 +1,2 @@
+-- Laws of `s57`.
+pub mod Only

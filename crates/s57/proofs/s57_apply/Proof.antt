@@ -1,0 +1,28 @@
+-- The answer of `apply`, put into its area. Assumes nothing.
+use Rattle.loader.proofs.AnswerLaws.{told-code, told-area}
+use borrow.Author.Needs.{needs}
+use Rattle.s57.proofs.s57_apply.Statement.{statement}
+use Rattle.s57.proofs.s57_apply.Tie as tie
+
+apply-requires : tie.Need-apply-requires
+apply-requires c κs = search needs
+
+put-answer-requires : tie.Need-put-answer-requires
+put-answer-requires c κs = search needs
+
+same-length : tie.Need-same-length
+same-length c = search needs
+
+same-length-2 : tie.Need-same-length-2
+same-length-2 c = search needs
+
+same-length-3 : tie.Need-same-length-3
+same-length-3 c = search needs
+
+returns : tie.Need-returns
+returns c = record { code = search (needs, told-code); area = search (needs, told-area); output = search needs; zero = search needs }
+
+pub s57-apply-spec : {M : Type 1} → statement M
+s57-apply-spec =
+    tie.close
+    (tie.spec apply-requires put-answer-requires same-length same-length-2 same-length-3 returns)

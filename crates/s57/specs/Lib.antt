@@ -1,0 +1,2 @@
+-- The notions of `s57`: what a host program in C is promised.
+pub mod Returned

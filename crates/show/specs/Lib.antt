@@ -1,0 +1,5 @@
+-- The notions of `show`, in the order in which a reader should meet them.
+pub mod Named
+pub mod Show
+pub mod Shows
+pub mod Listed

@@ -1,0 +1,59 @@
+-- The re-issue of a base at a number, by charts and demand 2's rules alone: no call is named here. Assumes nothing.
+use Prim.Native.Nat.{ℕ, zero, suc, _+_, _≤_, _<_}
+use mathlib.Core.List.{List, [], _∷_, List·Memᴰ, map}
+use mathlib.Core.Path.{_≡_}
+use lib.ListN.{length}
+use Rattle.held.specs.Chart.{Chart}
+use Rattle.held.specs.Held.{heldOf}
+use Rattle.changes.specs.Follow.{chartName}
+use Rattle.demands.specs.Cell.{cellChart}
+use Rattle.demands.specs.Update.{ReadableUpdate, fileChange, updatedBy, Allowed}
+
+-- ---- numbers: UPDN of a chart, of a cell, of an update
+abbrev pub chartNumber : Chart → ℕ
+chartNumber c = c .header .dsid .number
+
+-- "the number shown": that of the cell that the unit holds
+unfoldable pub shown : List ℕ → ℕ
+shown cell = chartNumber (cellChart cell)
+
+unfoldable pub numberOf : List ℕ → ℕ
+numberOf file = fileChange file .dsid .number
+
+-- ---- the files
+-- they "read as updates of its name and edition": none of the codes 1, 2, 4 to 7, 9 and 10
+pub record UpdateOf (c : Chart) (file : List ℕ) : Type 0 where
+  pub reads : ReadableUpdate file
+  pub name : chartName (fileChange file .dsid) ≡ chartName (c .header .dsid)
+  pub edition : fileChange file .dsid .edition ≡ c .header .dsid .edition
+
+-- "Among the files offered to any unit that read as updates of its name and edition, let any two with the same number be the same bytes": nothing is asked of
+-- files that aren't readable, nor of those of another name or edition
+pub record OneEach (Offered : List ℕ → Type 0) (base : Chart) : Type 0 where
+  pub same : (a b : List ℕ) → Offered a → Offered b → UpdateOf base a → UpdateOf base b → numberOf a ≡ numberOf b → a ≡ b
+
+-- ---- updates one after the other
+-- "applied once, in order": each on what those before it made
+unfoldable pub worked : Chart → List (List ℕ) → Chart
+worked c [] = c
+worked c (file ∷ files) = worked (updatedBy c file) files
+
+-- "by demand 2's rules": offered files, each allowed on what those before it made
+pub data Series (Offered : List ℕ → Type 0) : Chart → List (List ℕ) → Type 0 where
+  ended : {c : Chart} → Series Offered c []
+  next : {c : Chart} {file : List ℕ} {files : List (List ℕ)} → Offered file → Allowed c file → Series Offered (updatedBy c file) files → Series Offered c (file ∷ files)
+
+-- k numbers after n, in order: n + 1, n + 2, ..
+unfoldable pub numbersAfter : ℕ → ℕ → List ℕ
+numbersAfter n zero = []
+numbersAfter n (suc k) = (n + 1) ∷ numbersAfter (n + 1) k
+
+-- ---- "the re-issue of the base with every update after the base's own number up to the number shown applied once, in order, by demand 2's rules": these are the
+-- bytes of that cell where n is the number shown
+pub record Reissue (Offered : List ℕ → Type 0) (base : Chart) (n : ℕ) (cell : List ℕ) : Type 0 where
+  pub updates : List (List ℕ)
+  pub last : chartNumber base + length updates ≡ n
+  pub numbers : map numberOf updates ≡ numbersAfter (chartNumber base) (length updates)
+  pub every : (file : List ℕ) → Offered file → UpdateOf base file → chartNumber base < numberOf file → numberOf file ≤ n → List·Memᴰ file updates
+  pub series : Series Offered base updates
+  pub bytes : cell ≡ heldOf (worked base updates)

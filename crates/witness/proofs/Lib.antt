@@ -1,0 +1,11 @@
+-- What the calls do with the small files: all but Computing and the laws are what the owner reads.
+pub mod Computing
+pub mod BytesLaws
+pub mod HeldLaws
+pub mod Judged
+pub mod Admitted
+pub mod Applied
+pub mod Wrong
+pub mod Demand2
+pub mod Offered
+pub mod Units

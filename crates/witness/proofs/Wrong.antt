@@ -1,0 +1,168 @@
+-- The loaders that document 01 shuts out ("Strength of the promises"): none of them keeps the contract of Admit or of Apply, as the small cell and its updates show.
+-- `admit-number`, `apply-number`: one that keeps it invents no length on any call. Assumes nothing.
+use Prim.Native.Nat.{ℕ}
+use mathlib.Core.List.{List, [], _++_, map}
+use mathlib.Core.Path.{_≡_, refl, sym, ap, _∙_}
+use native.Mathlib.Omega.{arith}
+use lib.ListN.{length, drop, getD}
+use lib.Seq.{take-at}
+use Rattle.reader.specs.Reader.{answer}
+use Rattle.reader.specs.declared.answer.Answer.{Answer}
+use Rattle.objects.specs.Object.{Object}
+use Rattle.held.specs.Chart.{Chart}
+use Rattle.held.specs.Held.{heldOf}
+use Rattle.loader.specs.Admit.{admitOf}
+use Rattle.demands.specs.Cell.{recordsIn, cellChart}
+use Rattle.demands.specs.Update.{updatedBy}
+use Rattle.demands.proofs.ReadsBack.{held-admitted, held-again}
+use Rattle.demands.proofs.Admit.{admit-writes}
+use Rattle.demands.proofs.Apply.{apply-writes}
+use Rattle.witness.specs.SmallCell.{small}
+use Rattle.witness.specs.SmallUpdates.{moving, deleting, chartSmall, chartMoved, heldSmall, heldMoved, heldDeleted}
+use Rattle.witness.specs.SmallOffers.{room}
+use Rattle.witness.specs.Loaders.{Left, Admitter, Applier, wrote, KeepsAdmit, KeepsApply, AdmitsNothing, AppliesNothing, AdmitsAlike, AppliesAlike, WritesAlike, Copies}
+use Rattle.witness.specs.Loaders.{WorksAhead, InventsAdmitted, InventsApplied}
+use Rattle.witness.proofs.Computing.{judging, admitting, applying, smallFiles}
+use Rattle.witness.proofs.Admitted.{small-admitted, held-length, room-length}
+use Rattle.witness.proofs.Applied.{moved-whole, moved-held, moved-records, deleted-records, held-lengths, small-means, moved-means, deleted-means, moving-applied}
+use Rattle.witness.proofs.Applied.{deleting-applied, moving-again}
+
+code-of : {a b : Answer} → a ≡ b → a .code ≡ b .code
+code-of e = ap (λ (x : Answer). x .code) e
+
+-- what was written, where the answer has the length and the area begins with the held form
+wrote-held : (l : Left) (held rest : List ℕ) (k : ℕ) → l .told ≡ answer 0 0 0 k 0 → l .area ≡ held ++ rest → length held ≡ k → wrote l ≡ held
+wrote-held l held rest k e f g = rw (e, f) (take-at held rest k g)
+
+-- ---- of a loader that keeps Admit's contract
+module _ {admit : Admitter} (keeps : KeepsAdmit admit) where
+  small-told : admit small 112 room .told ≡ answer 0 0 0 2077 0
+  small-told = keeps .told small 112 room ∙ small-admitted 112 room (omega arith) (omega (arith, room-length)) .0
+
+  small-wrote : wrote (admit small 112 room) ≡ heldSmall
+  small-wrote =
+      wrote-held (admit small 112 room) heldSmall (drop 2077 room) 2077 small-told
+      (keeps .area small 112 room ∙ small-admitted 112 room (omega arith) (omega (arith, room-length)) .1) held-length
+
+  -- a second cell that is accepted: the small one with update 1, as it is held
+  moved-told : admit heldMoved 112 room .told ≡ answer 0 0 0 2077 0
+  moved-told =
+      keeps .told heldMoved 112 room
+      ∙ (rw moved-held at
+      (held-admitted chartMoved (moved-whole .good) 112 room (omega (arith, moved-records)) (omega (arith, ap length moved-held, held-lengths .0, room-length))))
+      ∙ ap (λ (n : ℕ). answer 0 0 0 n 0) (held-lengths .0)
+
+  moved-wrote : wrote (admit heldMoved 112 room) ≡ heldMoved
+  moved-wrote =
+      wrote-held (admit heldMoved 112 room) heldMoved (drop (length heldMoved) room) 2077 moved-told
+      (keeps .area heldMoved 112 room
+      ∙ (rw moved-held at (held-again chartMoved (moved-whole .good) 112 room (omega (arith, moved-records)) (omega (arith, ap length moved-held, held-lengths .0, room-length)))))
+      (held-lengths .0)
+
+  -- Number is how long the held form is, on every call that is accepted
+  pub admit-number : (cell : List ℕ) (w : ℕ) (out : List ℕ) → admit cell w out .told .code ≡ 0 → admit cell w out .told .number ≡ length (heldOf (cellChart cell))
+  admit-number cell w out h =
+      let e = keeps .told cell w out in
+      ap (λ (x : Answer). x .number) (e ∙ admit-writes cell w out (sym (code-of e) ∙ h) .answered)
+
+-- ---- of a loader that keeps Apply's contract
+module _ {apply : Applier} (keeps : KeepsApply apply) where
+  moving-told : apply heldSmall moving 160 room .told ≡ answer 0 0 0 2077 0
+  moving-told = keeps .told heldSmall moving 160 room ∙ moving-applied 160 room (omega arith) (omega (arith, room-length)) .0
+
+  moving-wrote : wrote (apply heldSmall moving 160 room) ≡ heldMoved
+  moving-wrote =
+      wrote-held (apply heldSmall moving 160 room) heldMoved (drop 2077 room) 2077 moving-told
+      (keeps .area heldSmall moving 160 room ∙ moving-applied 160 room (omega arith) (omega (arith, room-length)) .1) (held-lengths .0)
+
+  deleting-told : apply heldMoved deleting 160 room .told ≡ answer 0 0 0 1986 0
+  deleting-told = keeps .told heldMoved deleting 160 room ∙ deleting-applied 160 room (omega arith) (omega (arith, room-length)) .0
+
+  deleting-wrote : wrote (apply heldMoved deleting 160 room) ≡ heldDeleted
+  deleting-wrote =
+      wrote-held (apply heldMoved deleting 160 room) heldDeleted (drop 1986 room) 1986 deleting-told
+      (keeps .area heldMoved deleting 160 room ∙ deleting-applied 160 room (omega arith) (omega (arith, room-length)) .1) (held-lengths .1)
+
+  pub apply-number : (cell file : List ℕ) (w : ℕ) (out : List ℕ) → apply cell file w out .told .code ≡ 0
+      → apply cell file w out .told .number ≡ length (heldOf (updatedBy (cellChart cell) file))
+  apply-number cell file w out h =
+      let e = keeps .told cell file w out in
+      ap (λ (x : Answer). x .number) (e ∙ apply-writes cell file w out (sym (code-of e) ∙ h) .answered)
+
+-- ---- RVER of the second object, node 2
+unfoldable secondVersion : List Object → ℕ
+secondVersion ts = getD (map (λ (t : Object). t .version) ts) 1 0
+
+versions : (secondVersion (chartSmall .objects) ≡ 1) × (secondVersion (chartMoved .objects) ≡ 2)
+unfolding secondVersion judging admitting applying smallFiles recordsIn
+versions = (refl, refl)
+
+-- ---- "a loader that refuses everything"
+pub not-nothing-admitted : {admit : Admitter} → KeepsAdmit admit → AdmitsNothing admit → ⊥
+not-nothing-admitted k wrong = wrong .never small 112 room (code-of (small-told k))
+
+pub not-nothing-applied : {apply : Applier} → KeepsApply apply → AppliesNothing apply → ⊥
+not-nothing-applied k wrong = wrong .never heldSmall moving 160 room (code-of (moving-told k))
+
+-- ---- "one answer for every cell"
+-- a file of no bytes: "length 0 is Frame"
+empty-refused : admitOf [] 112 2077 .code ≡ 2
+unfolding judging admitting
+empty-refused = refl
+
+pub not-alike-admitted : {admit : Admitter} → KeepsAdmit admit → AdmitsAlike admit → ⊥
+not-alike-admitted {admit} k wrong =
+    let zero : admit small 112 room .told .code ≡ 0 = code-of (small-told k) in
+    let two : admit [] 112 room .told .code ≡ 2 = code-of (k .told [] 112 room) ∙ ap (λ (o : ℕ). admitOf [] 112 o .code) room-length ∙ empty-refused in
+    let same = wrong .alike small [] 112 room in
+    omega arith
+
+-- the cell at 0 takes update 1, the cell at 1 doesn't
+pub not-alike-applied : {apply : Applier} → KeepsApply apply → AppliesAlike apply → ⊥
+not-alike-applied {apply} k wrong =
+    let zero : apply heldSmall moving 160 room .told .code ≡ 0 = code-of (moving-told k) in
+    let eleven : apply heldMoved moving 160 room .told .code ≡ 11 = code-of (k .told heldMoved moving 160 room ∙ moving-again 160 (length room) (omega arith)) in
+    let same = wrong .alike heldSmall heldMoved moving 160 room in
+    omega arith
+
+-- the two cells that are accepted have two re-issues
+different : heldSmall ≡ heldMoved → ⊥
+different e =
+    let z = ap (λ (s : List ℕ). secondVersion (cellChart s .objects)) e in
+    let a = ap (λ (c : Chart). secondVersion (c .objects)) small-means in
+    let b = ap (λ (c : Chart). secondVersion (c .objects)) moved-means in
+    omega (arith, versions .0, versions .1)
+
+pub not-written-alike : {admit : Admitter} → KeepsAdmit admit → WritesAlike admit → ⊥
+not-written-alike k wrong =
+    different (sym (small-wrote k) ∙ wrong .alike small heldMoved 112 room (code-of (small-told k)) (code-of (moved-told k)) ∙ moved-wrote k)
+
+-- ---- "a copy called updated"
+pub not-copy : {apply : Applier} → KeepsApply apply → Copies apply → ⊥
+not-copy k wrong =
+    let e = wrong .copy heldSmall moving 160 room (code-of (moving-told k)) in
+    let z = ap secondVersion (ap (λ (s : List ℕ). cellChart s .objects) (sym (moving-wrote k)) ∙ e) in
+    let a = ap (λ (c : Chart). secondVersion (c .objects)) small-means in
+    let b = ap (λ (c : Chart). secondVersion (c .objects)) moved-means in
+    omega (arith, versions .0, versions .1)
+
+-- ---- "a series worked in at its first file, later ones only raising UPDN": at 1 there are four objects, at 2 three
+pub not-ahead : {apply : Applier} → KeepsApply apply → WorksAhead apply → ⊥
+not-ahead {apply} k wrong =
+    let one = moving-wrote k in
+    let done : apply (wrote (apply heldSmall moving 160 room)) deleting 160 room .told .code ≡ 0 =
+    ap (λ (s : List ℕ). apply s deleting 160 room .told .code) one ∙ code-of (deleting-told k) in
+    let two : wrote (apply (wrote (apply heldSmall moving 160 room)) deleting 160 room) ≡ heldDeleted =
+    ap (λ (s : List ℕ). wrote (apply s deleting 160 room)) one ∙ deleting-wrote k in
+    let e = wrong .ahead heldSmall moving deleting 160 room (code-of (moving-told k)) done in
+    let z = ap length (ap (λ (s : List ℕ). cellChart s .objects) (sym two) ∙ e ∙ ap (λ (s : List ℕ). cellChart s .objects) one) in
+    let a = ap (λ (c : Chart). length (c .objects)) moved-means in
+    let b = ap (λ (c : Chart). length (c .objects)) deleted-means in
+    omega (arith, moved-records, deleted-records)
+
+-- ---- "an invented length"
+pub not-invented-admitted : {admit : Admitter} → KeepsAdmit admit → InventsAdmitted admit → ⊥
+not-invented-admitted k wrong = wrong .other small 112 room (code-of (small-told k)) (admit-number k small 112 room (code-of (small-told k)))
+
+pub not-invented-applied : {apply : Applier} → KeepsApply apply → InventsApplied apply → ⊥
+not-invented-applied k wrong = wrong .other heldSmall moving 160 room (code-of (moving-told k)) (apply-number k heldSmall moving 160 room (code-of (moving-told k)))

@@ -1,0 +1,55 @@
+-- Two updates of the small cell as bytes, and what it is in a unit before and after each. Assumes nothing.
+use Prim.Native.Nat.{ℕ}
+use mathlib.Core.List.{List, [], _∷_, flatten}
+use Rattle.octets.specs.Number.{bytesOf}
+use Rattle.table.specs.Text.{bytes}
+use Rattle.header.specs.First.{firstRecord}
+use Rattle.held.specs.Chart.{Chart}
+use Rattle.demands.specs.Cell.{cellChart}
+use Rattle.demands.specs.Update.{updatedBy}
+use Rattle.witness.specs.Records.{fieldEnd, declared, declaredFirst, declaredDsid, declaredDssi, declaredVrid, declaredPairs, declaredFrid, declaredFoid, cellHeading}
+use Rattle.witness.specs.Records.{updateHeading, parameters, vrid, pair, node, edge, frid, foid, feature}
+use Rattle.witness.specs.SmallCell.{small}
+
+-- ---- update 1 moves node 2: a modify, whose SGCC replaces its one pair
+unfoldable pub moving : List ℕ
+moving =
+    flatten
+    (bytes "004383LE1 0900095 ! 3304" ∷ bytes "0000001000" ∷ bytes "0001017001" ∷ bytes "DSID136018" ∷ bytes "DSSI077154" ∷ bytes "VRID048231" ∷ bytes "SGCC036279"
+    ∷ bytes "SG2D028315" ∷ fieldEnd
+    ∷ declaredFirst ∷ declaredDsid ∷ declaredDssi ∷ declaredVrid ∷ declared "CCUI!CCIX!CCNC" "(b11,2b12)" ∷ declaredPairs
+    ∷ updateHeading "001" "1" "        20240201"
+    ∷ bytes "00080 D     00053   1204" ∷ bytes "0001300" ∷ bytes "VRID903" ∷ bytes "SGCC612" ∷ bytes "SG2D918" ∷ fieldEnd
+    ∷ bytesOf 2 2 ∷ fieldEnd ∷ vrid 120 2 2 3 ∷ fieldEnd ∷ (3 ∷ []) ∷ bytesOf 2 1 ∷ bytesOf 2 1 ∷ fieldEnd ∷ pair 20000000 ∷ fieldEnd ∷ [])
+
+-- ---- update 2 deletes the line
+unfoldable pub deleting : List ℕ
+deleting =
+    flatten
+    (bytes "004243LE1 0900085 ! 3304" ∷ bytes "0000001000" ∷ bytes "0001017001" ∷ bytes "DSID136018" ∷ bytes "DSSI077154" ∷ bytes "FRID069231" ∷ bytes "FOID039300" ∷ fieldEnd
+    ∷ declaredFirst ∷ declaredDsid ∷ declaredDssi ∷ declaredFrid ∷ declaredFoid
+    ∷ updateHeading "002" "2" "        20240301"
+    ∷ bytes "00074 D     00049   2204" ∷ bytes "00010300" ∷ bytes "FRID1303" ∷ bytes "FOID0916" ∷ fieldEnd
+    ∷ bytesOf 2 2 ∷ fieldEnd ∷ frid 2 2 2 ∷ fieldEnd ∷ foid ∷ fieldEnd ∷ [])
+
+-- ---- the charts
+abbrev pub chartSmall : Chart
+chartSmall = cellChart small
+
+abbrev pub chartMoved : Chart
+chartMoved = updatedBy chartSmall moving
+
+abbrev pub chartDeleted : Chart
+chartDeleted = updatedBy chartMoved deleting
+
+-- ---- their held forms: node 1 stands before node 2
+unfoldable pub heldSmall : List ℕ
+heldSmall = flatten (firstRecord ∷ cellHeading "0" "2024010120240101" 1 ∷ parameters ∷ node 3 1 1 0 ∷ node 4 2 1 10000000 ∷ edge 1 2 ∷ feature 2 255 ∷ [])
+
+-- node 2 has moved: "UPDN, and UADT and ISDT, which become the update's ISDT"
+unfoldable pub heldMoved : List ℕ
+heldMoved = flatten (firstRecord ∷ cellHeading "1" "2024020120240201" 1 ∷ parameters ∷ node 3 1 1 0 ∷ node 4 2 2 20000000 ∷ edge 1 2 ∷ feature 2 255 ∷ [])
+
+-- the line is gone: no geo object is left
+unfoldable pub heldDeleted : List ℕ
+heldDeleted = flatten (firstRecord ∷ cellHeading "2" "2024030120240301" 0 ∷ parameters ∷ node 3 1 1 0 ∷ node 4 2 2 20000000 ∷ edge 1 2 ∷ [])

@@ -1,0 +1,1 @@
+// Small files as bytes, and what the calls of `loader` say of them, computed: no code.
