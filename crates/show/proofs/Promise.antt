@@ -1,15 +1,11 @@
--- What Show's definitions come to, in plain words: a part is a record that has the name, of the update before the cell; Number is its length; no class but the
--- four is found. Assumes nothing.
-use Prim.Native.Nat.{ℕ, _+_, _≤_, _<_}
-use mathlib.Core.Bool.{Bool, true, false, cond}
+-- Number is the part's length, and a refusal's part is empty: whatever was given. Assumes nothing.
+use Prim.Native.Nat.{ℕ}
+use mathlib.Core.Bool.{cond}
 use mathlib.Core.List.{List, []}
-use mathlib.Core.Logic.{⊎-elim}
-use mathlib.Core.Path.{_≡_, refl, sym, ap, _∙_}
+use mathlib.Core.Path.{_≡_, refl}
 use native.Mathlib.Omega.{arith}
-use lib.ListN.{length, take, drop, length-take, length-drop}
+use lib.ListN.{length, drop, length-drop}
 use lib.Seq.{length-take-le}
-use Rattle.names.specs.Names.{firstItem, Readable}
-use Rattle.reader.specs.declared.answer.Answer.{Answer}
 use Rattle.show.specs.Show.{sightOf, sightAnswer, bytesOfSpan, sightBytes, showOf, shownPart}
 use Rattle.show.specs.Listed.{SpanIn, SightIn}
 use Rattle.show.specs.declared.span.Span.{Span}
