@@ -78,7 +78,7 @@ compile() {
 compile "$out/alone" "$alone"
 compile "$out/linked" "$linked"
 missing=
-for program in $(echo "$programs" | sed -n 's/^\([a-z_0-9]\{1,\}\) \([a-z]\{1,\}\)$/\1:\2/p'); do
+for program in $(echo "$programs" | tr ' ' ':'); do
     name=${program%:*}
     crate=${program#*:}
     if [ "$crate" = alone ]; then
