@@ -158,19 +158,25 @@ cut_off() { # MICROSECONDS WORDS..
 
 # unit on words that put the new chart in place of the old one, cut off a hundred times. A run that ended before it was hit isn't one of the hundred. Every
 # other moment is near the end of the run, where the chart is written: it comes later after a hit and earlier after a miss, since how long a run takes
-# changes with what else the machine does. What a run leaves besides the chart is the next one's to remove.
+# changes with what else the machine does; for the same reason the span of the other moments grows after a hit and shrinks after a miss. What a run leaves
+# besides the chart is the next one's to remove.
 cut_runs() { # OLD NEW WORDS..
-    local old=$1 new=$2 begin end late now hit runs=0 cut=0 parts=0 news=0
+    local old=$1 new=$2 begin end span late now hit runs=0 cut=0 parts=0 news=0
     shift 2
     begin=$(takes_time "$old")
     end=$(takes_time "$old" "$@")
-    late=$end
-    while [ "$cut" -lt 100 ] && [ "$runs" -lt 500 ]; do
+    span=$((end - begin)) late=$end
+    while [ "$cut" -lt 100 ] && [ "$runs" -lt 1000 ]; do
         runs=$((runs + 1))
         cp "$old" "$chart"
         hit=false
         if [ $((runs % 2)) -eq 0 ]; then
-            cut_off $((begin + (end - begin) * (RANDOM % 1000) / 1000)) "$@" && hit=true
+            if cut_off $((begin + span * (RANDOM % 1000) / 1000)) "$@"; then
+                hit=true
+                span=$((span + span / 40))
+            else
+                span=$((span - span / 20))
+            fi
         elif cut_off "$late" "$@"; then
             hit=true
             late=$((late + end * (RANDOM % 50) / 1000))
