@@ -25,9 +25,9 @@ quoted() {
     grep -ho '`[^`]*`' "$@" | tr -d '`'
 }
 
-# ---- files: paths from the top, folders too; NAME and FILE stand for names
-grep -hoE '(^|[^A-Za-z0-9_/.-])(crates|host|bench|docs|samples|\.ci)/[A-Za-z0-9_./-]*' README.md docs/*.md |
-    sed -e 's|^[^a-z.]||' -e 's|[.,:-]*$||' | grep -vE '(NAME|FILE|FOLDER)' | sort -u >"$dir/paths"
+# ---- files: paths from the top, folders too; NAME and FILE stand for names, and a star for more than one
+grep -hoE '(^|[^A-Za-z0-9_/.-])(crates|host|bench|docs|samples|\.ci)/[A-Za-z0-9_./*-]*' README.md docs/*.md |
+    sed -e 's|^[^a-z.]||' -e 's|[.,:-]*$||' | grep -vE '(NAME|FILE|FOLDER|\*)' | sort -u >"$dir/paths"
 while read -r path; do
     if [ -e "$path" ]; then echo "$path"; fi
 done <"$dir/paths" >"$dir/there"
