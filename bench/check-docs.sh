@@ -1,7 +1,8 @@
 #!/bin/sh
 # Whether what README.md and docs/ name is there: files, crates, law files, must-fail edits, and the identifiers of
 # docs/PROMISES.md and docs/READING.md; and whether docs/READING.md has the files' true line counts.
-# Ends with the line 'N passed, M failed'. Wants nothing beyond a POSIX shell and its tools.
+# Ends with the line 'N passed, M failed'. Wants nothing beyond a shell and GNU's usual tools.
+# shellcheck disable=SC2016
 set -u
 LC_ALL=C
 export LC_ALL
@@ -44,7 +45,7 @@ grep -hoE '\b[A-Z][A-Za-z]*Laws\b' README.md docs/PROMISES.md docs/READING.md do
 all_in 'no law file' "$dir/cited" "$dir/laws"
 
 # ---- crates, where "crate" or "crates" stands before the names, and in the first column of the wrong programs
-ls crates | sort -u >"$dir/crates"
+find crates -mindepth 1 -maxdepth 1 -type d | sed 's|.*/||' | sort -u >"$dir/crates"
 {
     grep -hoE '\bcrates? `[a-z0-9]+`((,| and|, and) `[a-z0-9]+`)*' README.md docs/*.md | grep -o '`[^`]*`'
     sed -n '/^## Wrong programs/,/^## What is not/p' docs/PROMISES.md | grep -oE '^\| `[a-z0-9]+` ' | grep -o '`[^`]*`'
@@ -74,6 +75,7 @@ sed 's| has .*||' "$dir/counts" | while read -r path; do
     if [ -f "$path" ]; then echo "$path has $(($(wc -l <"$path"))) lines"; fi
 done | sort -u >"$dir/true"
 all_in 'another count' "$dir/counts" "$dir/true"
+comm -13 "$dir/counts" "$dir/true" | sed 's|^|the true count: |'
 
 echo "$passed passed, $failed failed"
 [ "$failed" -eq 0 ]
