@@ -8,7 +8,7 @@ ghost use Rattle.probe.specs.Verdict.{verdictOf};
 use iso8211::Framed;
 use iso8211::descriptive::cut;
 use iso8211::file::frame;
-use iso8211::formats::write_out;
+use formats::write_out;
 
 pub mod described;
 pub mod fields;

@@ -9,9 +9,9 @@ use Rattle.iso8211.specs.Directory.{tagAt, rowAt, rows}
 use Rattle.iso8211.specs.Field as iso8211-field
 use Rattle.iso8211.specs.Field.{directoryAt, fieldAt}
 use Rattle.iso8211.specs.File.{framedFrom, frameOf, recordAt}
-use Rattle.iso8211.specs.Formats as iso8211-formats
-use Rattle.iso8211.specs.Formats.{digitAt, shortFrom, shortAt, isLetter, closed, sizedAt, counts, binaryAt, primitiveAt, single, repeated, joined, followed, itemAt, itemsFrom}
-use Rattle.iso8211.specs.Formats.{writtenAt}
+use Rattle.formats.specs.Formats as iso8211-formats
+use Rattle.formats.specs.Formats.{digitAt, shortFrom, shortAt, isLetter, closed, sizedAt, counts, binaryAt, primitiveAt, single, repeated, joined, followed, itemAt, itemsFrom}
+use Rattle.formats.specs.Formats.{writtenAt}
 use Rattle.iso8211.specs.Leader.{kindGood, sizeGood, leaderGood}
 use Rattle.iso8211.specs.Record.{fieldGood, inRow, bodyGood, recordGood}
 use Rattle.iso8211.specs.Same.{sameList}
