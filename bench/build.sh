@@ -49,7 +49,7 @@ generator='generate_frame generate_broken generate_large generate_formats genera
     generate_update faults_describe faults_layout faults_values faults_names generate_read generate_damage generate_hostile
     generate_judge generate_heavy faults_topology generate_listing generate_held generate_admit generate_limits
     generate_pair generate_back generate_series faults_update generate_apply generate_busy generate_grown generate_sheet generate_show'
-shared='buffer areas boundary tally speed check_held cases_frame cases_read cases_judge cases_admit cases_apply cases_show'
+shared='buffer areas boundary tally speed check_held cover_apply cases_frame cases_read cases_judge cases_admit cases_apply cases_show'
 
 # shellcheck source=compiler.sh
 . "$here/compiler.sh"

@@ -2,6 +2,7 @@
 
 #include "areas.h"
 #include "check_held.h"
+#include "cover_apply.h"
 #include "generate_apply.h"
 #include "tally.h"
 
@@ -349,6 +350,22 @@ static void run_made(struct tally *tally, const struct loader *candidate, struct
     apply_case_free(&made);
 }
 
+/* A run of all seeds has every kind of edit among its good pairs. */
+static void run_seeds(struct tally *tally, const struct loader *candidate, uint64_t first, uint64_t seeds)
+{
+    static struct cover cover;
+    for (uint64_t seed = first; seed - first < seeds; seed++) {
+        struct apply_case made = apply_case_make(seed);
+        if (made.held.length > 0)
+            cover_add(&cover, &made);
+        run_made(tally, candidate, made, seed);
+        if (seed % SEEDS_A_SERIES == 0)
+            run_series(tally, candidate, seed);
+    }
+    if (seeds >= DEFAULT_SEEDS)
+        cover_demand(&cover, tally);
+}
+
 int run_apply_cases(const struct loader *candidate, int words, char **word)
 {
     uint64_t seeds = words > 1 ? strtoull(word[1], NULL, 10) : DEFAULT_SEEDS;
@@ -358,11 +375,7 @@ int run_apply_cases(const struct loader *candidate, int words, char **word)
     list_kinds(&tally);
     for (size_t i = 0; i < sheet_rows(); i++)
         run_made(&tally, candidate, sheet_row_make(i), i);
-    for (uint64_t seed = first; seed - first < seeds; seed++) {
-        run_made(&tally, candidate, apply_case_make(seed), seed);
-        if (seed % SEEDS_A_SERIES == 0)
-            run_series(&tally, candidate, seed);
-    }
+    run_seeds(&tally, candidate, first, seeds);
     for (size_t i = 0; i < large_applies(); i++)
         run_made(&tally, candidate, large_apply_make(i), i);
     return tally_close(&tally);

@@ -4,18 +4,16 @@
 # re-issue that has the same updates worked in. No part of the gate.
 # usage: bench/gdal.sh [COUNT [FIRST_SEED]]
 # Takes samples/harbour.000 and COUNT cells of make_cells, default 20 from seed 1, with their updates. Wants what `make -C host` and bench/build.sh build; where
-# ogrinfo is missing it installs Debian's gdal-bin, as root. Other commands may make the re-issues, of a cell: $REISSUE CELL OUT, and of a cell with updates:
-# $SERIES CELL UPDATE.. OUT, which is by default the C reader's program write_held.
+# ogrinfo is missing it installs Debian's gdal-bin, as root. The re-issues are the example host's, host/unit. Other commands may make them, of a cell:
+# $REISSUE CELL OUT, and of a cell with updates: $SERIES CELL UPDATE.. OUT.
 # Prints two tables, and ends with 'N passed, M failed'; the status is 0 only where nothing failed.
 set -eu
 export LC_ALL=C
 
 top=$(cd "$(dirname "$0")/.." && pwd -P)
 programs=${BENCH_OUT:-$top/target/bench}
-for name in make_cells write_held; do
-    [ -x "$programs/$name" ] || { echo "bench/gdal.sh: no $programs/$name: bench/build.sh builds it" >&2; exit 2; }
-done
-[ -n "${REISSUE:-}" ] || [ -x "$top/target/host/unit" ] || { echo "bench/gdal.sh: no $top/target/host/unit: make -C host makes it" >&2; exit 2; }
+[ -x "$programs/make_cells" ] || { echo "bench/gdal.sh: no $programs/make_cells: bench/build.sh builds it" >&2; exit 2; }
+{ [ -n "${REISSUE:-}" ] && [ -n "${SERIES:-}" ]; } || [ -x "$top/target/host/unit" ] || { echo "bench/gdal.sh: no $top/target/host/unit: make -C host makes it" >&2; exit 2; }
 if ! command -v ogrinfo >/dev/null 2>&1; then
     apt-get update </dev/null >&2
     DEBIAN_FRONTEND=noninteractive apt-get install -y --no-install-recommends gdal-bin </dev/null >&2
@@ -70,12 +68,17 @@ reissue() { # CELL OUT
     "$top/host/unit.sh" admit "$1" "$work/unit" >/dev/null && mv "$work/unit/cell.000" "$2"
 }
 
-series() { # CELL UPDATE.. OUT
+series() { # OUT CELL UPDATE..
+    out=$1
+    shift
     if [ -n "${SERIES:-}" ]; then
-        $SERIES "$@" # a command may have several words
-    else
-        $fixed "$programs/write_held" "$@"
+        $SERIES "$@" "$out" # a command may have several words
+        return
     fi
+    mkdir -p "$work/unit"
+    "$top/host/unit.sh" admit "$1" "$work/unit" >/dev/null || return
+    shift
+    "$top/host/unit.sh" follow "$work/unit" "$@" >/dev/null && mv "$work/unit/cell.000" "$out"
 }
 
 passed=0
@@ -123,7 +126,7 @@ compare_series() { # NAME CELL READ
     name=$1
     opened=$3
     set -- "$2" "${2%.000}".00[1-9]
-    if ! series "$@" "$work/held.000"; then
+    if ! series "$work/held.000" "$@"; then
         no_reissue "$name"
         return
     fi

@@ -44,6 +44,8 @@ use Rattle.ring.specs.Ring.{nodeIn, ringsGood, ringCode}
 use Rattle.topology.specs.Topology.{itemCode, codeAmong, faultFrom, topologyOf, topologyFault}
 use Rattle.reader.specs.Reader.{answer, filed, firstRefusal, framedFront, frontOf, twiceRefusal, countsRefusal, cellFault, workAnswer}
 use Rattle.reader.specs.declared.answer.Answer.{Answer}
+use Rattle.reader.specs.declared.front.Front.{Front}
+use Rattle.reader.specs.declared.front.Front.the-variants.{Count, Refused}
 use Rattle.loader.specs.Judge.{cellVerdict, judgeChecked, judgeFront, judgeOf}
 use Rattle.held.specs.Chart.{Chart, chartOf}
 use Rattle.held.specs.Held.{heldOf}
@@ -53,17 +55,17 @@ use Rattle.loader.specs.Admit.{heldAnswer, admitChecked, admitFront, adm
 use Rattle.loader.specs.Answer.{answerBytes}
 
 -- ---- a refusal's code is one of document 01's, and its record at most m
-record Few (m : ℕ) (r : Refusal) : Type 0 where
-  code-few : r .code ≤ 22
-  index-few : r .index ≤ m
+pub record Few (m : ℕ) (r : Refusal) : Type 0 where
+  pub code-few : r .code ≤ 22
+  pub index-few : r .index ≤ m
 
-few-more : {m k : ℕ} {r : Refusal} → m ≤ k → Few m r → Few k r
+pub few-more : {m k : ℕ} {r : Refusal} → m ≤ k → Few m r → Few k r
 few-more h f = let i = f .index-few in record { code-few = f .code-few; index-few = omega arith }
 
-few-made : {m : ℕ} (code index offset : ℕ) → code ≤ 22 → index ≤ m → Few m (refusal code index offset)
+pub few-made : {m : ℕ} (code index offset : ℕ) → code ≤ 22 → index ≤ m → Few m (refusal code index offset)
 few-made code index offset c i = record { code-few = c; index-few = i }
 
-few-cond : (b : Bool) {m : ℕ} {x y : Refusal} → Few m x → Few m y → Few m (cond b x y)
+pub few-cond : (b : Bool) {m : ℕ} {x y : Refusal} → Few m x → Few m y → Few m (cond b x y)
 few-cond true f g = f
 few-cond false f g = g
 
@@ -78,11 +80,11 @@ records-few-here (suc n) update marks s k at st =
     (few-made 6 k (valueFault update (st .aall) (st .nall) s at) (omega arith) (omega arith)))
     (few-made 5 k (layoutFault update (st .stage) marks s at) (omega arith) (omega arith))
 
-read-few : (s : List ℕ) (n : ℕ) → Few (n + 3) (readFault false s n)
+pub read-few : (update : Bool) (s : List ℕ) (n : ℕ) → Few (n + 3) (readFault update s n)
 unfolding readFault
-read-few s n =
+read-few update s n =
     few-cond (eqb (length (describedOf s)) 0) (few-made 4 0 0 (omega arith) (omega arith))
-    (few-more (omega arith) (records-few-here (n - 1) false (describedOf s) s 1 (recordAt s 1) firstState))
+    (few-more (omega arith) (records-few-here (n - 1) update (describedOf s) s 1 (recordAt s 1) firstState))
 
 twice-index : (k : ℕ) (seen ws : List ℕ) → twiceFrom k seen ws .index ≤ k + length ws
 unfolding twiceFrom
@@ -93,21 +95,30 @@ twice-index k seen (w ∷ ws) = pick (isIn (nameOf w) seen) (twice-index (k + 1)
   pick true h = omega arith
   pick false h = omega arith
 
-twice-few : (s : List ℕ) (n : ℕ) → twiceOf false s n .index ≤ n + 3
-unfolding twiceOf firstItem
-twice-few s n = let t = twice-index 3 [] (nameWords false s n) in let long : length (nameWords false s n) ≡ n - 3 = names-length false s n in omega arith
+first-least : (update : Bool) → firstItem update ≤ 3
+unfolding firstItem
+first-least true = omega arith
+first-least false = omega arith
 
-cell-few : (s : List ℕ) (n : ℕ) → Few (n + 3) (cellFault s n)
+pub twice-few : (update : Bool) (s : List ℕ) (n : ℕ) → twiceOf update s n .index ≤ n + 3
+unfolding twiceOf
+twice-few update s n =
+    let t = twice-index (firstItem update) [] (nameWords update s n) in
+    let long : length (nameWords update s n) ≡ n - firstItem update = names-length update s n in
+    let first = first-least update in
+    omega arith
+
+pub cell-few : (s : List ℕ) (n : ℕ) → Few (n + 3) (cellFault s n)
 unfolding cellFault twiceRefusal countsRefusal
 cell-few s n =
     few-cond (eqb (readFault false s n .code) 0)
     (few-cond (eqb (twiceOf false s n .index) 0)
     (few-cond (countsGood s n) (few-made 0 0 0 (omega arith) (omega arith)) (few-made 8 1 (recordAt s 1) (omega arith) (omega arith)))
-    (few-made 7 (twiceOf false s n .index) (twiceOf false s n .offset) (omega arith) (twice-few s n)))
-    (read-few s n)
+    (few-made 7 (twiceOf false s n .index) (twiceOf false s n .offset) (omega arith) (twice-few false s n)))
+    (read-few false s n)
 
 -- ---- codes 17 to 19
-cond-least : (b : Bool) (x y m : ℕ) → x ≤ m → y ≤ m → cond b x y ≤ m
+pub cond-least : (b : Bool) (x y m : ℕ) → x ≤ m → y ≤ m → cond b x y ≤ m
 cond-least true x y m h k = h
 cond-least false x y m h k = k
 
@@ -153,14 +164,18 @@ fault-few code least k [] = few-made 0 0 0 (omega arith) (omega arith)
 fault-few code least k (i ∷ is) =
     few-cond (eqb (code i) 0) (few-more (omega arith) (fault-few code least (k + 1) is)) (few-made (code i) k (i .place) (least i) (omega arith))
 
+pub items-few : (comf : ℕ) (all : List Item) → Few (3 + length all) (topologyOf comf all)
+unfolding topologyOf
+items-few comf all = fault-few (codeAmong comf all) (item-least comf all) 3 all
+
 topology-few : (s : List ℕ) (n : ℕ) → Few (n + 3) (topologyFault s n)
-unfolding topologyFault topologyOf heldItems firstItem
+unfolding topologyFault heldItems firstItem
 topology-few s n =
     let ws = nameWords false s n in
     let long : length ws ≡ n - 3 = names-length false s n in
     let items = items-length s (sorted ws) in
     let same = sorted-length ws in
-    few-more (omega arith) (fault-few (codeAmong (comfAt s) (itemsOf s (sorted ws))) (item-least (comfAt s) (itemsOf s (sorted ws))) 3 (itemsOf s (sorted ws)))
+    few-more (omega arith) (items-few (comfAt s) (itemsOf s (sorted ws)))
 
 verdict-few : (s : List ℕ) (n : ℕ) → Few (n + 3) (cellVerdict s n)
 unfolding cellVerdict
@@ -173,65 +188,71 @@ pub record Small (a : Answer) : Type 0 where
   pub index-small : a .index < 4294967296
   pub number-small : a .number < 4294967296
 
-small-cond : (b : Bool) {x y : Answer} → Small x → Small y → Small (cond b x y)
+pub small-cond : (b : Bool) {x y : Answer} → Small x → Small y → Small (cond b x y)
 small-cond true f g = f
 small-cond false f g = g
 
-small-made : (code file index number offset : ℕ) → code ≤ 22 → file ≤ 3 → index < 4294967296 → number < 4294967296 → Small (answer code file index number offset)
+pub small-made : (code file index number offset : ℕ) → code ≤ 22 → file ≤ 3 → index < 4294967296 → number < 4294967296 → Small (answer code file index number offset)
 small-made code file index number offset c f i n = record { code-small = omega arith; file-small = omega arith; index-small = i; number-small = n }
 
-small-filed : {m : ℕ} (r : Refusal) → Few m r → m < 4294967296 → Small (filed 1 r)
+pub small-filed : {m : ℕ} (file : ℕ) (r : Refusal) → file ≤ 3 → Few m r → m < 4294967296 → Small (filed file r)
 unfolding filed
-small-filed r f h =
+small-filed file r low f h =
     let index = f .index-few in
     small-cond (eqb (r .code) 0) (small-made 0 0 0 0 0 (omega arith) (omega arith) (omega arith) (omega arith))
-    (small-made (r .code) 1 (r .index) 0 (r .offset) (f .code-few) (omega arith) (omega arith) (omega arith))
+    (small-made (r .code) file (r .index) 0 (r .offset) (f .code-few) low (omega arith) (omega arith))
+
+-- what begins with the front of a file: codes 1 and 2 are small, and a framed file has no more records than bytes
+framed-cases : (P : Front → Type 0) (file : ℕ) (s : List ℕ) (f : Framed) → f ≡ frameOf s → length s ≤ 5242880 → file ≤ 3
+    → ((a : Answer) → Small a → P (Refused a)) → ((n : ℕ) → n ≤ 5242880 → P (Count n)) → P (framedFront file s f)
+unfolding framedFront
+framed-cases P file s (Records n) e short low refused count = let few = records-few s n (sym e) in count n (omega arith)
+framed-cases P file s (Broken k) e short low refused count =
+    let few = broken-few s k (sym e) in
+    refused (answer 2 file k 0 (recordAt s k)) (small-made 2 file k 0 (recordAt s k) (omega arith) low (omega arith) (omega arith))
+
+pub front-cases : (P : Front → Type 0) (file : ℕ) (s : List ℕ) → file ≤ 3 → ((a : Answer) → Small a → P (Refused a)) → ((n : ℕ) → n ≤ 5242880 → P (Count n))
+    → P (frontOf file s)
+unfolding frontOf
+front-cases P file s low refused count =
+    ⊎-elim (λ (t : ltb 5242880 (length s) ≡ true). rw t (refused (answer 1 file 0 0 0) (small-made 1 file 0 0 0 (omega arith) low (omega arith) (omega arith))))
+    (λ (t : ltb 5242880 (length s) ≡ false). rw t (framed-cases P file s (frameOf s) refl (ltb-false _ _ t) low refused count)) (true-or-false (ltb 5242880 (length s)))
+
+-- 16 bytes for each of n records, n at most those of two files
+pub small-work : (w n : ℕ) {on : Answer} → n ≤ 10485760 → Small on → Small (workAnswer w n on)
+unfolding workAnswer
+small-work w n h on = small-cond (ltb w (16 * n)) (small-made 3 0 0 (16 * n) 0 (omega arith) (omega arith) (omega arith) (omega arith)) on
 
 small-checked : (cell : List ℕ) (w n : ℕ) → n ≤ 5242880 → Small (judgeChecked cell w n)
-unfolding judgeChecked workAnswer
-small-checked cell w n h =
-    small-cond (ltb w (16 * n)) (small-made 3 0 0 (16 * n) 0 (omega arith) (omega arith) (omega arith) (omega arith))
-    (small-filed (cellVerdict cell n) (verdict-few cell n) (omega arith))
-
-small-framed : (cell : List ℕ) (w : ℕ) (f : Framed) → f ≡ frameOf cell → length cell ≤ 5242880 → Small (judgeFront cell w (framedFront 1 cell f))
-unfolding judgeFront framedFront
-small-framed cell w (Records n) e short = let few = records-few cell n (sym e) in small-checked cell w n (omega arith)
-small-framed cell w (Broken k) e short =
-    let few = broken-few cell k (sym e) in small-made 2 1 k 0 (recordAt cell k) (omega arith) (omega arith) (omega arith) (omega arith)
+unfolding judgeChecked
+small-checked cell w n h = small-work w n (omega arith) (small-filed 1 (cellVerdict cell n) (omega arith) (verdict-few cell n) (omega arith))
 
 pub judge-small : (cell : List ℕ) (w : ℕ) → Small (judgeOf cell w)
-unfolding judgeOf judgeFront frontOf
-judge-small cell w =
-    ⊎-elim (λ (t : ltb 5242880 (length cell) ≡ true). rw t (small-made 1 1 0 0 0 (omega arith) (omega arith) (omega arith) (omega arith)))
-    (λ (t : ltb 5242880 (length cell) ≡ false). rw t (small-framed cell w (frameOf cell) refl (ltb-false _ _ t))) (true-or-false (ltb 5242880 (length cell)))
+unfolding judgeOf judgeFront
+judge-small cell w = front-cases (λ f. Small (judgeFront cell w f)) 1 cell (omega arith) (λ a small. small) (small-checked cell w)
 
 -- ---- the same of Admit: what fits has a length of four bytes
-small-held : (o : ℕ) (c : Chart) → Small (heldAnswer o c)
+pub small-held : (o : ℕ) (c : Chart) → Small (heldAnswer o c)
 unfolding heldAnswer
 small-held o c =
     ⊎-elim (λ (f : fits c ≡ true).
     let n = length (heldOf c) in
     let short = fits-told c f .short in
-    rw f (small-cond (ltb o n) (small-made 21 0 0 n 0 (omega arith) (omega arith) (omega arith) (omega arith)) (small-made 0 0 0 n 0 (omega arith) (omega arith) (omega arith) (omega arith))))
+    rw f (small-cond (ltb o n) (small-made 21 0 0 n 0 (omega arith) (omega arith) (omega arith) (omega arith))
+    (small-made 0 0 0 n 0 (omega arith) (omega arith) (omega arith) (omega arith))))
     (λ (f : fits c ≡ false). rw f (small-made 20 3 0 0 0 (omega arith) (omega arith) (omega arith) (omega arith))) (true-or-false (fits c))
 
-small-admitted : (cell : List ℕ) (w o n : ℕ) → n ≤ 5242880 → Small (admitChecked cell w o n)
-unfolding admitChecked workAnswer firstRefusal
-small-admitted cell w o n h =
-    small-cond (ltb w (16 * n)) (small-made 3 0 0 (16 * n) 0 (omega arith) (omega arith) (omega arith) (omega arith))
-    (small-cond (eqb (cellVerdict cell n .code) 0) (small-held o (chartOf cell n)) (small-filed (cellVerdict cell n) (verdict-few cell n) (omega arith)))
+pub small-first : (r : Refusal) {m : ℕ} {on : Answer} → Few m r → m < 4294967296 → Small on → Small (firstRefusal r on)
+unfolding firstRefusal
+small-first r few h on = small-cond (eqb (r .code) 0) on (small-filed 1 r (omega arith) few h)
 
-small-opened : (cell : List ℕ) (w o : ℕ) (f : Framed) → f ≡ frameOf cell → length cell ≤ 5242880 → Small (admitFront cell w o (framedFront 1 cell f))
-unfolding admitFront framedFront
-small-opened cell w o (Records n) e short = let few = records-few cell n (sym e) in small-admitted cell w o n (omega arith)
-small-opened cell w o (Broken k) e short =
-    let few = broken-few cell k (sym e) in small-made 2 1 k 0 (recordAt cell k) (omega arith) (omega arith) (omega arith) (omega arith)
+small-admitted : (cell : List ℕ) (w o n : ℕ) → n ≤ 5242880 → Small (admitChecked cell w o n)
+unfolding admitChecked
+small-admitted cell w o n h = small-work w n (omega arith) (small-first (cellVerdict cell n) (verdict-few cell n) (omega arith) (small-held o (chartOf cell n)))
 
 pub admit-small : (cell : List ℕ) (w o : ℕ) → Small (admitOf cell w o)
-unfolding admitOf admitFront frontOf
-admit-small cell w o =
-    ⊎-elim (λ (t : ltb 5242880 (length cell) ≡ true). rw t (small-made 1 1 0 0 0 (omega arith) (omega arith) (omega arith) (omega arith)))
-    (λ (t : ltb 5242880 (length cell) ≡ false). rw t (small-opened cell w o (frameOf cell) refl (ltb-false _ _ t))) (true-or-false (ltb 5242880 (length cell)))
+unfolding admitOf admitFront
+admit-small cell w o = front-cases (λ f. Small (admitFront cell w o f)) 1 cell (omega arith) (λ a small. small) (small-admitted cell w o)
 
 -- ---- the sixteen bytes, read again: what a host gets
 pub record ReadsAs (s : List ℕ) (a : Answer) : Type 0 where
@@ -240,7 +261,7 @@ pub record ReadsAs (s : List ℕ) (a : Answer) : Type 0 where
   pub index-read : numAt s 8 4 ≡ a .index
   pub number-read : numAt s 12 4 ≡ a .number
 
-bytes-read : (a : Answer) → Small a → ReadsAs (answerBytes a) a
+pub bytes-read : (a : Answer) → Small a → ReadsAs (answerBytes a) a
 unfolding answerBytes
 bytes-read a small =
     let c = bytesOf 4 (a .code) in

@@ -61,7 +61,7 @@ alone-listed cell work n r is none so room held =
     }
 
 -- ---- pair
-update-once : (s : List ℕ) (m : ℕ) → updateFault s m .code ≡ 0 → twiceOf true s m .index ≡ 0
+pub update-once : (s : List ℕ) (m : ℕ) → updateFault s m .code ≡ 0 → twiceOf true s m .index ≡ 0
 unfolding updateFault twiceRefusal
 update-once s m h =
     ⊎-elim (λ (r : eqb (readFault true s m .code) 0 ≡ true).

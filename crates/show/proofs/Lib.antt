@@ -1,6 +1,8 @@
--- Laws of `show`: the record of a name in NamedLaws, what is seen of one file and of two in SightLaws, the order of codes in CallLaws, that the
--- promise has one answer in Only.
+-- Laws of `show`: the record of a name in NamedLaws, what is seen of one file and of two in SightLaws, the order of codes in CallLaws, what
+-- they come to in Promise and Exactly, that the promise has one answer in Only.
 pub mod NamedLaws
 pub mod SightLaws
 pub mod CallLaws
+pub mod Promise
+pub mod Exactly
 pub mod Only

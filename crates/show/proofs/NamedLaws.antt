@@ -77,6 +77,13 @@ unfolding namedIn
 named-record update s n p rcnm rcid told =
     let r = found-from (n - firstItem update) s (firstItem update) (recordAt s (firstItem update)) p rcnm rcid refl told in (r .0, r .1, omega arith, r .3)
 
+-- no record that has the name, nothing found
+pub named-none : (update : Bool) (s : List ℕ) (n rcnm rcid : ℕ) → ((k : ℕ) → firstItem update ≤ k → k < n → isNamed s (recordAt s k) rcnm rcid ≡ false)
+    → namedIn update s n rcnm rcid ≡ Nothing
+unfolding namedIn
+named-none update s n rcnm rcid none =
+    none-from (n - firstItem update) s (firstItem update) (recordAt s (firstItem update)) rcnm rcid refl (λ j low high. none j low (omega arith))
+
 -- ---- classes
 abbrev Class : ℕ → Type 0
 Class c = (c ≡ 110) ⊎ ((c ≡ 120) ⊎ ((c ≡ 130) ⊎ (c ≡ 100)))
@@ -183,6 +190,13 @@ module _ {update : Bool} {s : List ℕ} {n : ℕ} (good : Readable update s n) (
       let words : wordFor s (recordAt s j) ≡ wordFor s (recordAt s k) = sym (a .2) ∙ ap (λ (i : ℕ). getD ws i 0) same ∙ b .2 in
       sym (word-place s (recordAt s j) sj) ∙ ap (λ (w : ℕ). placeOf w) words ∙ word-place s (recordAt s k) sk
 
+  -- the record that has the name is the one that is found
+  pub named-only : (k rcnm rcid : ℕ) → firstItem update ≤ k → k < n → isNamed s (recordAt s k) rcnm rcid ≡ true → namedIn update s n rcnm rcid ≡ At (recordAt s k)
+  unfolding namedIn
+  named-only k rcnm rcid low high is =
+      here-from (n - firstItem update) s (firstItem update) (recordAt s (firstItem update)) (recordAt s k) rcnm rcid refl
+      (λ j l h t. one-place j k l (omega arith) low high (named-number s (recordAt s j) rcnm rcid t ∙ sym (named-number s (recordAt s k) rcnm rcid is))) k low (omega arith) is
+
   -- ---- the look-up finds the record of the name
   module _ (bytes : (i : ℕ) → byteAt s i < 256) (rcnm rcid : ℕ) (small : rcid < 4294967296) where
     abbrev name : ℕ
@@ -218,7 +232,7 @@ module _ {update : Bool} {s : List ℕ} {n : ℕ} (good : Readable update s n) (
         (λ j low high t. one-place j k low (within j low high) (r .1) (r .2) (named-number s (recordAt s j) rcnm rcid t ∙ sym number) ∙ r .3) k (r .1)
         (let a = r .1 in let b = r .2 in omega arith) is
 
-    other-class : isClass rcnm ≡ false → namedIn update s n rcnm rcid ≡ Nothing
+    pub other-class : isClass rcnm ≡ false → namedIn update s n rcnm rcid ≡ Nothing
     unfolding namedIn
     other-class f =
         none-from (n - firstItem update) s (firstItem update) (recordAt s (firstItem update)) rcnm rcid refl

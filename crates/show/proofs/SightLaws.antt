@@ -1,19 +1,21 @@
 -- Laws of what is seen: of a file by its words, of two files in order; and a part that is shown lies in its file. Assumes nothing.
 use Prim.Native.Nat.{ℕ, _+_, _-_, _*_, _≤_, _<_}
-use mathlib.Core.Bool.{Bool, true, false}
+use mathlib.Core.Bool.{Bool, true, false, cond}
 use mathlib.Core.List.{List, []}
 use mathlib.Core.Logic.{⊎-elim}
-use mathlib.Core.Path.{_≡_, refl, sym, _∙_}
+use mathlib.Core.Path.{_≡_, refl, sym, ap, _∙_}
 use native.Mathlib.Omega.{arith}
 use lib.ListN.{length, take, drop}
-use lib.Dec.{eqb}
+use lib.Dec.{eqb, ltb}
+use borrow.Author.Tests.{eqb-false}
 use Rattle.octets.specs.Number.{byteAt}
 use Rattle.octets.proofs.Cases.{true-or-false}
 use Rattle.iso8211.specs.Leader.{sizeAt}
 use Rattle.iso8211.specs.Record.{endOf}
 use Rattle.iso8211.specs.Field.{FramedAt}
-use Rattle.iso8211.specs.File.{frameOf}
-use Rattle.iso8211.specs.declared.file.Framed.the-variants.{Records}
+use Rattle.iso8211.specs.File.{frameOf, recordAt}
+use Rattle.iso8211.specs.declared.file.Framed.{Framed}
+use Rattle.iso8211.specs.declared.file.Framed.the-variants.{Records, Broken}
 use Rattle.iso8211.proofs.Promise.{framed-at}
 use Rattle.words.specs.Words.{wordsIn}
 use Rattle.words.specs.Order.{Sorted}
@@ -21,7 +23,7 @@ use Rattle.words.proofs.OrderLaws.{sorted-in-order}
 use Rattle.names.specs.Names.{firstItem, nameWords}
 use Rattle.names.specs.declared.lookup.Found.{Found}
 use Rattle.names.specs.declared.lookup.Found.the-variants.{At, Nothing}
-use Rattle.reader.specs.Reader.{answer, frontOf, cellChecked, bothChecked, Short}
+use Rattle.reader.specs.Reader.{answer, framedFront, frontOf, cellChecked, bothChecked, Short}
 use Rattle.reader.specs.declared.answer.Answer.{Answer}
 use Rattle.reader.specs.declared.front.Front.{Front}
 use Rattle.reader.specs.declared.front.Front.the-variants.{Count, Refused}
@@ -157,13 +159,31 @@ module _ {cell update work : List ℕ} {n m : ℕ} (l : BothListed cell n update
     unfolding bothSight foundSight
     update-shown p span told e = rw (← update-found, told, e)
 
--- ---- what is shown lies in its file, whatever was given
+-- ---- what is shown lies in its file, whatever was given, and a refusal has a code
+front-code : (long : Bool) (file : ℕ) (s : List ℕ) (f : Framed) (a : Answer) → Refused a ≡ cond long (Refused (answer 1 file 0 0 0)) (framedFront file s f) → a .code ≡ 0 → ⊥
+unfolding framedFront
+front-code true file s f a e z =
+    let same : a ≡ answer 1 file 0 0 0 = cc in let one : _≡_ {A = ℕ} 1 0 = sym (ap (λ (q : Answer). q .code) same) ∙ z in omega arith
+front-code false file s (Records n) a e z = let y : _≡_ {A = ℕ} 0 1 = cc in omega arith
+front-code false file s (Broken k) a e z =
+    let same : a ≡ answer 2 file k 0 (recordAt s k) = cc in let two : _≡_ {A = ℕ} 2 0 = sym (ap (λ (q : Answer). q .code) same) ∙ z in omega arith
+
+front-refused : (file : ℕ) (s : List ℕ) (a : Answer) → Refused a ≡ frontOf file s → a .code ≡ 0 → ⊥
+unfolding frontOf
+front-refused file s a e = front-code (ltb 5242880 (length s)) file s (frameOf s) a e
+
 module _ (cell update : List ℕ) where
-  denied-in : (a : Answer) → SightIn cell update (Denied a)
-  denied-in a = record { each = λ span e. absurd (let z : _≡_ {A = ℕ} 0 1 = cc in omega arith) }
+  denied-in : (a : Answer) → (a .code ≡ 0 → ⊥) → SightIn cell update (Denied a)
+  denied-in a some = record {
+    each = λ span e. absurd (let z : _≡_ {A = ℕ} 0 1 = cc in omega arith);
+    refused = λ b e z. let same : a ≡ b = cc in some (ap (λ (q : Answer). q .code) same ∙ z);
+  }
 
   span-in : (span : Span) → SpanIn cell update span → SightIn cell update (Shown span)
-  span-in span so = record { each = λ other e. let same : span ≡ other = cc in rw same at so }
+  span-in span so = record {
+    each = λ other e. let same : span ≡ other = cc in rw same at so;
+    refused = λ a e z. let y : _≡_ {A = ℕ} 0 1 = cc in omega arith;
+  }
 
   found-in : (u : Bool) (s : List ℕ) (r : Found) (on : Sight) → ((p : ℕ) → r ≡ At p → SpanIn cell update (spanOf u s p)) → SightIn cell update on
       → SightIn cell update (foundSight u s r on)
@@ -174,7 +194,7 @@ module _ (cell update : List ℕ) where
   after-in : (a : Answer) (on : Sight) → SightIn cell update on → SightIn cell update (afterReading a on)
   unfolding afterReading
   after-in a on so =
-      ⊎-elim (λ (t : eqb (a .code) 0 ≡ true). rw t so) (λ (f : eqb (a .code) 0 ≡ false). rw f (denied-in a)) (true-or-false (eqb (a .code) 0))
+      ⊎-elim (λ (t : eqb (a .code) 0 ≡ true). rw t so) (λ (f : eqb (a .code) 0 ≡ false). rw f (denied-in a (eqb-false (a .code) 0 f))) (true-or-false (eqb (a .code) 0))
 
   cell-span : (n p rcnm rcid : ℕ) → Short cell n → namedIn false cell n rcnm rcid ≡ At p → SpanIn cell update (spanOf false cell p)
   unfolding spanOf
@@ -187,7 +207,7 @@ module _ (cell update : List ℕ) where
   module _ (w rcnm rcid : ℕ) where
     cell-in : (n : ℕ) → Short cell n → SightIn cell update (cellSight cell n rcnm rcid)
     unfolding cellSight absent
-    cell-in n so = found-in false cell (namedIn false cell n rcnm rcid) absent (λ p told. cell-span n p rcnm rcid so told) (denied-in (answer 22 0 0 0 0))
+    cell-in n so = found-in false cell (namedIn false cell n rcnm rcid) absent (λ p told. cell-span n p rcnm rcid so told) (denied-in (answer 22 0 0 0 0) (λ z. omega arith))
 
     both-in : (n m : ℕ) → Short cell n → Short update m → SightIn cell update (bothSight cell n update m rcnm rcid)
     unfolding bothSight
@@ -197,7 +217,7 @@ module _ (cell update : List ℕ) where
     unfolding secondSight pairSight
     second-in n (Count m) e so =
         after-in (bothChecked cell update w n m) (bothSight cell n update m rcnm rcid) (both-in n m so (counted 2 update (Count m) m e refl))
-    second-in n (Refused a) e so = denied-in a
+    second-in n (Refused a) e so = denied-in a (front-refused 2 update a e)
 
     with-in : (n : ℕ) → Short cell n → SightIn cell update (updateSight cell n update w rcnm rcid)
     unfolding updateSight aloneSight
@@ -208,7 +228,7 @@ module _ (cell update : List ℕ) where
     first-in : (f : Front) → f ≡ frontOf 1 cell → SightIn cell update (firstSight cell update w rcnm rcid f)
     unfolding firstSight
     first-in (Count n) e = with-in n (counted 1 cell (Count n) n e refl)
-    first-in (Refused a) e = denied-in a
+    first-in (Refused a) e = denied-in a (front-refused 1 cell a e)
 
     pub sight-in : (sight : Sight) → sight ≡ sightOf cell update w rcnm rcid → SightIn cell update sight
     unfolding sightOf

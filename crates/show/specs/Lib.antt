@@ -3,3 +3,4 @@ pub mod Named
 pub mod Show
 pub mod Shows
 pub mod Listed
+pub mod Examples

@@ -12,9 +12,10 @@ use Rattle.names.specs.Names.{firstItem, nameWords, twiceOf, Readable}
 use Rattle.names.specs.Lookup.{lookup}
 use Rattle.names.specs.declared.lookup.Found.{Found}
 use Rattle.names.specs.declared.lookup.Found.the-variants.{Nothing}
+use Rattle.reader.specs.declared.answer.Answer.{Answer}
 use Rattle.show.specs.declared.span.Span.{Span}
 use Rattle.show.specs.declared.sight.Sight.{Sight}
-use Rattle.show.specs.declared.sight.Sight.the-variants.{Shown}
+use Rattle.show.specs.declared.sight.Sight.the-variants.{Shown, Denied}
 
 -- ---- the place of a name by words
 -- "110 isolated node, 120 connected node, 130 edge, 100 feature"
@@ -36,9 +37,10 @@ pub record BothListed (cell : List ℕ) (n : ℕ) (update : List ℕ) (m : ℕ) 
   pub held : Listed false cell n work (n - 3 + (m - 2))
   pub come : Listed true update m work (n - 3 + (m - 2) + (n - 3))
 
--- ---- a part that lies in its file
+-- ---- a part that lies in its file; a refusal has a code
 pub record SpanIn (cell update : List ℕ) (span : Span) : Type 0 where
   pub inside : span .from + span .size ≤ length (cond (span .update) update cell)
 
 pub record SightIn (cell update : List ℕ) (sight : Sight) : Type 0 where
   pub each : (span : Span) → sight ≡ Shown span → SpanIn cell update span
+  pub refused : (a : Answer) → sight ≡ Denied a → a .code ≡ 0 → ⊥
