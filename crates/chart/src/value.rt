@@ -12,7 +12,7 @@ use attributes::ffpt_fault;
 use iso8211::field::field_on;
 use iso8211::field::head_of;
 use table::kind_of;
-use dsid::dsid_fault;
+use dataset::dsid_fault;
 use values::dspm::dspm_fault;
 use values::dssi::dssi_fault;
 use values::frid::frid_fault;

@@ -6,7 +6,7 @@ use crate::place::DSPM;
 use entries::Shape;
 use entries::whole;
 use table::kind_row;
-use dsid::dsid_laid;
+use dataset::dsid_laid;
 use values::dspm::dspm_laid;
 
 // Whether the bytes of a field of kind k, without its closing 1E, hold its subfields and no more.

@@ -21,9 +21,9 @@ use Rattle.words.specs.Order.{insert, sorted, isIn}
 use Rattle.table.specs.Table.{table, asNumber, rowOf, among, kindOf, tagOf}
 use Rattle.table.specs.Text.{bytes}
 use Rattle.values.specs.Class.{isGeo, isMeta, isCollection, classOf, isClass, objlGood}
-use Rattle.dsid.specs.Date.{isLeap, daysIn, isDate, dateGood}
-use Rattle.dsid.specs.Dsid.{dsidEnds, dsidLaid, isCode, codesAt, extensionGood, dsnmGood, edtnGood, updnDigits, updnGood, uadtGood, stedGood, predGood, headFault, namesFault}
-use Rattle.dsid.specs.Dsid.{issueFault, productFault, dsidOver, dsidFault}
+use Rattle.dataset.specs.Date.{isLeap, daysIn, isDate, dateGood}
+use Rattle.dataset.specs.Dsid.{dsidEnds, dsidLaid, isCode, codesAt, extensionGood, dsnmGood, edtnGood, updnDigits, updnGood, uadtGood, stedGood, predGood, headFault, namesFault}
+use Rattle.dataset.specs.Dsid.{issueFault, productFault, dsidOver, dsidFault}
 use Rattle.values.specs.Dspm.{dspmLaid, datumFault, unitsFault, factorsFault, dspmFault}
 use Rattle.values.specs.Dssi.{noneGood, dssiFault}
 use Rattle.values.specs.Fault.{faultAt, first}

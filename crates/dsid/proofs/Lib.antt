@@ -1,4 +1,0 @@
--- Laws of `dsid`: what the crates above may use is Promise and `dsid-laid` of DsidLaws; and examples.
-pub mod DsidLaws
-pub mod Promise
-pub mod Examples

@@ -1,3 +1,0 @@
--- The notions of `dsid`, in the order in which a reader should meet them.
-pub mod Date
-pub mod Dsid
