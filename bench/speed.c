@@ -5,11 +5,10 @@
 #include <stdlib.h>
 #include <time.h>
 
+/* Processor time, so that what else the machine does isn't counted. */
 static double now(void)
 {
-    struct timespec time;
-    timespec_get(&time, TIME_UTC);
-    return (double)time.tv_sec * 1e9 + (double)time.tv_nsec;
+    return (double)clock() * (1e9 / CLOCKS_PER_SEC);
 }
 
 static double once(timed *perform, void *context, unsigned calls, uint64_t *answer)

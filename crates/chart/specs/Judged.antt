@@ -24,7 +24,7 @@ pub record FieldJudged (update : Bool) (aall nall k : ℕ) (c : List ℕ) (stamp
   pub upto : Upto before stamp → Upto after stamp
   pub within : r ≤ length c
 
--- a record that is framed and laid out
+-- a record that is framed, and whose fields are filled by their subfields
 pub record Full (s : List ℕ) (at : ℕ) : Type 0 where
   pub known : RecordIn s at
   pub full : (j : ℕ) → j < countAt s at → filled (kindAt s at j) (contentAt s at j) ≡ true

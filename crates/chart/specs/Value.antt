@@ -25,7 +25,7 @@ unfoldable pub isHigh : ℕ → ℕ → ℕ → Bool
 isHigh aall nall k = (eqb k ATTF && eqb aall 1) || (eqb k NATF && eqb nall 1)
 
 -- the fault of a field of kind k, by its content: 0, or 1 and the place of the first wrong subfield; `seen` are the labels that its list
--- has met in the fields before
+-- has met in the fields before. "Other subfields are free": those of 0001, FOID, VRPT, SG2D, SG3D, FSPT and of the four controls
 unfoldable pub fieldFault : Bool → ℕ → ℕ → ℕ → List ℕ → List ℕ → ℕ
 fieldFault update aall nall k seen c =
     cond (eqb k DSID) (dsidFault update c)

@@ -30,13 +30,13 @@ entryLen sh bs =
     cond (ltb (length bs) (sh .fixed)) 0
     (cond (eqb (sh .unit) 0) (sh .fixed) (textLen (sh .unit) (drop (sh .fixed) bs) (sh .fixed)))
 
--- the shapes that occur: an entry has fixed bytes, and a unit of text has at most 2
+-- the shapes that the code takes: an entry has fixed bytes, and a unit of text has at most 2 (1 in all lists of today)
 pub record Sound (sh : Shape) : Type 0 where
   pub some : 1 ≤ sh .fixed
   pub slim : sh .fixed ≤ 64
   pub narrow : sh .unit ≤ 2
 
--- "with "*" before the first if the group repeats": the whole entries at the front of bs, one after the other
+-- "a list field holds one group or more": the whole entries at the front of bs, one after the other
 unfoldable pub entriesFrom : ℕ → Shape → List ℕ → List (List ℕ)
 entriesFrom zero sh bs = []
 entriesFrom (suc f) sh bs =

@@ -10,7 +10,7 @@ attributes : entriesOf (record { fixed = 2; unit = 1 }) (75 ∷ 0 ∷ 49 ∷ 31 
 unfolding numAt textFrom textLen entryLen entriesFrom entriesOf
 attributes = refl
 
--- the same with units of two bytes: a unit 1F 01 is no terminator, and nor is a 1F that begins within a unit
+-- the same with units of two bytes: a unit 1F 01 is no terminator
 wide-attributes : entriesOf (record { fixed = 2; unit = 2 }) (75 ∷ 0 ∷ 31 ∷ 1 ∷ 31 ∷ 0 ∷ []) ≡ (75 ∷ 0 ∷ 31 ∷ 1 ∷ 31 ∷ 0 ∷ []) ∷ []
 unfolding numAt textFrom textLen entryLen entriesFrom entriesOf
 wide-attributes = refl

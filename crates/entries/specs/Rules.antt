@@ -3,7 +3,7 @@
 use mathlib.Core.Bool.{Bool, true, _&&_}
 use mathlib.Core.List.{List, [], _∷_}
 
--- each entry keeps the rule, as "RIND 2 or 3"
+-- each entry keeps the rule, as "no value 7F" in an insert
 unfoldable pub allOf : {E : Type 0} → (E → Bool) → List E → Bool
 allOf good [] = true
 allOf good (e ∷ es) = good e && allOf good es

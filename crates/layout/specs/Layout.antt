@@ -34,7 +34,7 @@ follows update prev k =
 unfoldable pub placed : Bool → ℕ → ℕ → ℕ → Bool
 placed update stage prev k = cond (eqb prev start) (eqb k first) (cond (eqb prev first) (opens stage k) (follows update prev k))
 
--- a record does not end before its identifier fields
+-- "0001 DSID DSSI", "Feature: 0001 FRID FOID": a record does not end behind 0001, DSID or FRID, else "a .. field missing"
 unfoldable pub mayEnd : ℕ → Bool
 mayEnd prev = not (eqb prev first || (eqb prev DSID || eqb prev FRID))
 

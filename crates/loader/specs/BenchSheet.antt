@@ -2,6 +2,7 @@
 use Prim.Native.Nat.{ℕ, _+_, _-_}
 use mathlib.Core.Bool.{cond}
 use mathlib.Core.List.{List, [], _∷_, _++_, flatten}
+use mathlib.Core.Option.{Option, none, some}
 use mathlib.Core.Path.{_≡_, refl}
 use lib.ListN.{take}
 use lib.Dec.{eqb}
@@ -9,7 +10,7 @@ use Rattle.octets.specs.Number.{numAt, bytesOf}
 use Rattle.entries.specs.Rules.{allOf, through}
 use Rattle.octets.specs.Digits.{digitsOf, fewest, fewestFrom}
 use Rattle.iso8211.specs.Directory.{len}
-use Rattle.table.specs.Table.{VRPT, SG2D, FSPT, rowOf, table, tagOf, asNumber}
+use Rattle.table.specs.Table.{ATTV, VRPT, SG2D, FSPT, rowOf, table, tagOf, asNumber}
 use Rattle.table.specs.Text.{bytes}
 use Rattle.values.specs.Class.{isCollection}
 use Rattle.values.specs.Rule.{within}
@@ -26,10 +27,13 @@ use Rattle.records.specs.Written.{tagBytes, bodyOf, rowsFor, longest, farthest,
 use Rattle.objects.specs.Object.{Object, isFeature, listPiece, listPieces, vridBytes, vectorPieces, featurePieces, objectPieces}
 use Rattle.attributes.specs.Attributes.{labelOf, isRemoval}
 use Rattle.chart.specs.Value.{isAttributes}
-use Rattle.edits.specs.Control.{gone, come, allowed, edited, editedBy}
+use Rattle.edits.specs.Control.{Control, gone, come, allowed, edited, editedBy}
 use Rattle.edits.specs.AttributeEdit.{named, change, finds, changes, changesFind}
-use Rattle.edits.specs.Lists.{isNone, coordinates, controlOf, listAllowed, allowedAt, listsAllowed, listsEdited}
-use Rattle.edits.specs.Examples.{byControl, one, bringing, byLabel, editRows}
+use Rattle.edits.specs.Lists.{isNone, coordinates, controlOf, listAllowed, listEdited, allowedAt, listsAllowed, listsEdited}
+use Rattle.changes.specs.Change.{Amendment}
+use Rattle.changes.specs.Amend as amend
+use Rattle.changes.specs.Amend.{heldBy, kindsOf, identitySame, editAllowed, modifyCode, amendmentCode}
+use Rattle.changes.specs.Updated.{amended}
 use Rattle.topology.specs.Topology.{itemCode, codeAmong, faultFrom, topologyOf}
 
 -- ---- small charts
@@ -93,13 +97,39 @@ unfoldable pub lengths : List (List ℕ) → List ℕ
 lengths [] = []
 lengths (row ∷ rows) = len row ∷ lengths rows
 
+-- ---- a record of an update that modifies edge 1, which has one list, as the rules of updates take it
+-- with this VRPC it brings these in the list of that kind
+unfoldable pub modifying : Option Control → ℕ → List (List ℕ) → Amendment
+modifying c kind es = record {
+  ruin = 3;
+  object = record { rcnm = 130; rcid = 1; version = 2; prim = 0; grup = 0; objl = 0; foid = 0; lists = λ (k : ℕ). cond (eqb k kind) es [] };
+  first = c;
+  second = none;
+}
+
+-- its code; where that is 0, the list afterwards
+unfoldable pub outcome : ℕ → List (List ℕ) → Amendment → List ℕ
+outcome kind held a =
+    cond (eqb (amendmentCode (vector 130 kind held ∷ []) a) 0) (0 ∷ flatten (amended a (vector 130 kind held) .lists kind))
+    (amendmentCode (vector 130 kind held ∷ []) a ∷ [])
+
+-- of a list p, q by a control, p, q, r being 10, 20, 30
+unfoldable pub byControl : ℕ → ℕ → ℕ → List (List ℕ) → List ℕ
+byControl instruction index count brought =
+    outcome VRPT ((10 ∷ []) ∷ (20 ∷ []) ∷ []) (modifying (some (record { instruction = instruction; index = index; count = count })) VRPT brought)
+
+-- of the attribute of label 5, whose value is "A"
+unfoldable pub byLabel : List ℕ → List ℕ
+byLabel value = outcome ATTV ((5 ∷ 0 ∷ 65 ∷ 31 ∷ []) ∷ []) (modifying none ATTV ((5 ∷ 0 ∷ (value ++ (31 ∷ []))) ∷ []))
+
 -- ---- the rows
 -- what the topology gives, at COMF 10,000,000
 unfoldable pub verdict : List Item → ℕ
 verdict all = topologyOf 10000000 all .code
 
 -- "1. Connected node: fields 3, 9, 9; leader `00067 D     00046   1204`."  "2. Edge, no coordinates: base 49, length 80."  "4. Area 1F 2F 3R closes; 1F 2F 3F
--- is 19."  "5. A loop edge alone is a ring; two such as exterior are 19."  6, 7 and 8, each with its code in front: `editRows`.  "9. X = 1,800,000,000 at COMF 10,000,000 passes; one more is 17."
+-- is 19."  "5. A loop edge alone is a ring; two such as exterior are 19."  "6. List p,q: insert r at 3 gives p,q,r; at 4 is 16."  "7. Delete
+-- index 2 count 2 of p,q is 16; count 1 leaves p."  "8. Value empty: attribute stays, unknown. 7F: gone."  "9. X = 1,800,000,000 at COMF 10,000,000 passes; one more is 17."
 pub bench-sheet : (
     lengths (rowsFor 0 heldNode)
     ∷ take 24 (recordBytes heldNode)
@@ -107,7 +137,13 @@ pub bench-sheet : (
     ∷ (verdict (triangle (along-edge 1 1 ∷ along-edge 1 2 ∷ along-edge 2 3 ∷ [])) ∷ verdict (triangle (along-edge 1 1 ∷ along-edge 1 2 ∷ along-edge 1 3 ∷ [])) ∷ [])
     ∷ (verdict (loops (along-edge 1 1 ∷ [])) ∷ verdict (loops (along-edge 1 1 ∷ along-edge 1 2 ∷ [])) ∷ [])
     ∷ (verdict (isolated 1800000000) ∷ verdict (isolated 1800000001) ∷ [])
-    ∷ editRows)
+    ∷ byControl 1 3 1 ((30 ∷ []) ∷ [])
+    ∷ byControl 1 4 1 ((30 ∷ []) ∷ [])
+    ∷ byControl 2 2 2 []
+    ∷ byControl 2 2 1 []
+    ∷ byLabel []
+    ∷ byLabel (127 ∷ [])
+    ∷ [])
     ≡ (3 ∷ 9 ∷ 9 ∷ [])
     ∷ bytes "00067 D     00046   1204"
     ∷ (49 ∷ 80 ∷ [])
@@ -129,6 +165,7 @@ unfolding item node end edge along-edge area triangle loops isolated vector held
     itemCode codeAmong faultFrom topologyOf
     digitsOf fewest fewestFrom rowOf table tagOf asNumber bytes tagBytes bodyOf rowsFor longest farthest rowBytes rowsBytes baseFor leaderOf headOver headBytes recordBytes sizeOf
     isFeature listPiece listPieces vridBytes vectorPieces featurePieces objectPieces flatten
-    editRows byControl one bringing byLabel gone come allowed edited editedBy labelOf isRemoval named change finds changes changesFind
-    isAttributes isNone coordinates controlOf listAllowed allowedAt listsAllowed listsEdited
+    modifying outcome byControl byLabel gone come allowed edited editedBy labelOf isRemoval named change finds changes changesFind
+    isAttributes isNone coordinates controlOf listAllowed listEdited allowedAt listsAllowed listsEdited
+    heldBy kindsOf identitySame editAllowed modifyCode amend.foundCode amendmentCode amended
 bench-sheet = refl

@@ -8,7 +8,8 @@ use Rattle.items.specs.Identity.{nameFrom, nameOf, placeOf}
 use Rattle.names.specs.declared.lookup.Found.{Found}
 use Rattle.names.specs.declared.lookup.Found.the-variants.{At, Nothing}
 
--- "NAME is RCNM, RCID": the name that an entry of VRPT or FSPT starts with
+-- "NAME is RCNM, RCID": the name that an entry of VRPT or FSPT starts with. Shape has seen before that its class is 110, 120 or 130: of another class
+-- the number would be a feature's
 unfoldable pub nameIn : List ℕ → ℕ
 nameIn e = nameFrom (byteAt e 0) (numAt e 1 4)
 
@@ -26,7 +27,7 @@ indexFrom k (w ∷ ws) name = cond (eqb (nameOf w) name) (At k) (indexFrom (k + 
 unfoldable pub indexOf : List ℕ → ℕ → Found
 indexOf ws name = indexFrom 0 ws name
 
--- "a NAME is refused exactly if no record of the cell has it": 0 where it is found, else 18, Pointer
+-- "a NAME is refused exactly if no record of the cell has it", of a class that Shape has passed: 0 where it is found, else 18, Pointer
 unfoldable pub foundCode : Found → ℕ
 foundCode (At place) = 0
 foundCode Nothing = 18

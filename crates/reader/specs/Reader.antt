@@ -28,20 +28,20 @@ answer code file index number offset = record { code = code; file = file; index 
 unfoldable pub filed : ℕ → Refusal → Answer
 filed file r = cond (eqb (r .code) 0) (answer 0 0 0 0 0) (answer (r .code) file (r .index) 0 (r .offset))
 
--- "2 Frame: framing broken: first bad record"; how many records there are else
+-- 2 Frame, "framing broken", "first bad record"; how many records there are else
 unfoldable pub framedFront : ℕ → List ℕ → Framed → Front
 framedFront file s (Records n) = Count n
 framedFront file s (Broken k) = Refused (answer 2 file k 0 (recordAt s k))
 
--- "1 Long: over 5,242,880 bytes", then 2
+-- 1 Long, "over 5,242,880 bytes", then 2
 unfoldable pub frontOf : ℕ → List ℕ → Front
 frontOf file s = cond (ltb 5242880 (length s)) (Refused (answer 1 file 0 0 0)) (framedFront file s (frameOf s))
 
--- "7 Twice: a name met before in its file: first repeat"
+-- 7 Twice, "a name met before in its file", "first repeat"
 unfoldable pub twiceRefusal : Repeat → Refusal → Refusal
 twiceRefusal t on = cond (eqb (t .index) 0) on (refusal 7 (t .index) (t .offset))
 
--- "8 Counts: DSSI counts differ from a cell's records: 1, 1"
+-- 8 Counts, "DSSI counts differ from a cell's records", "1, 1"
 unfoldable pub countsRefusal : List ℕ → ℕ → Refusal
 countsRefusal s n = cond (countsGood s n) fine (refusal 8 1 (recordAt s 1))
 
@@ -53,7 +53,7 @@ cellFault s n = cond (eqb (readFault false s n .code) 0) (twiceRefusal (twiceOf 
 unfoldable pub updateFault : List ℕ → ℕ → Refusal
 updateFault s n = cond (eqb (readFault true s n .code) 0) (twiceRefusal (twiceOf true s n) fine) (readFault true s n)
 
--- "3 Work: work area under 16 bytes a record of the files given", with the bytes needed
+-- 3 Work, "work area under 16 bytes a record of the files given", with the bytes needed
 unfoldable pub workAnswer : ℕ → ℕ → Answer → Answer
 workAnswer w n on = cond (ltb w (16 * n)) (answer 3 0 0 (16 * n) 0) on
 
@@ -68,7 +68,7 @@ cellAnswer cell w (Refused a) = a
 unfoldable pub readCell : List ℕ → ℕ → Answer
 readCell cell w = cellAnswer cell w (frontOf 1 cell)
 
--- a cell and an update: "cell 1, 2; update 1, 2; 3; cell 4, 5/6, 7, 8; update 4, 5/6, 7"
+-- a cell and an update: "cell 1, 2; update 1, 2; 3; cell 4, then 5 before 6 record by record, 7, 8; update 4, 5/6, 7"
 unfoldable pub firstRefusal : Refusal → Answer → Answer
 firstRefusal r on = cond (eqb (r .code) 0) on (filed 1 r)
 

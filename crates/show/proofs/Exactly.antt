@@ -22,10 +22,9 @@ use Rattle.reader.proofs.BothLaws.{filed-code}
 use Rattle.reader.proofs.CallLaws.{counted}
 use Rattle.reader.proofs.ReaderLaws.{cell-good, update-good}
 use Rattle.loader.proofs.AdmitLaws.{fault-told}
-use Rattle.show.specs.Named.{isNamed}
+use Rattle.show.specs.Named.{isClass, isNamed}
 use Rattle.show.specs.Show.{spanOf, foundSight, absent, cellSight, bothSight, afterReading, aloneSight, pairSight, secondSight, updateSight, firstSight, sightOf}
 use Rattle.show.specs.Show.{sightAnswer, bytesOfSpan, sightBytes, showOf, shownPart}
-use Rattle.show.specs.Listed.{isClass}
 use Rattle.show.specs.declared.sight.Sight.{Sight}
 use Rattle.show.specs.declared.sight.Sight.the-variants.{Shown}
 use Rattle.show.proofs.NamedLaws.{named-only, named-none, other-class}

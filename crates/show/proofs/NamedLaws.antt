@@ -31,8 +31,8 @@ use Rattle.names.proofs.NamesLaws.{names-length, names-at, ascending}
 use Rattle.names.proofs.NeighboursLaws.{First, twice-least}
 use Rattle.names.proofs.OnceLaws.{once-strict}
 use Rattle.names.proofs.ReadableLaws.{place-small}
-use Rattle.show.specs.Named.{isNamed, namedFrom, namedIn}
-use Rattle.show.specs.Listed.{isClass, placeNamed}
+use Rattle.show.specs.Named.{isClass, isNamed, namedFrom, namedIn}
+use Rattle.show.specs.Listed.{placeNamed}
 
 -- ---- the walk: no record has the name; or those that have it stand at p
 none-from : (n : ℕ) (s : List ℕ) (i at rcnm rcid : ℕ) → at ≡ recordAt s i

@@ -1,10 +1,9 @@
 -- What the code and its proofs want; nothing here need be believed. Assumes nothing.
 use Prim.Native.Nat.{ℕ, _+_, _-_, _*_, _≤_}
-use mathlib.Core.Bool.{Bool, true, false, cond, _||_}
+use mathlib.Core.Bool.{Bool, true, false, cond}
 use mathlib.Core.List.{List}
 use mathlib.Core.Path.{_≡_}
 use lib.ListN.{length}
-use lib.Dec.{eqb}
 use Rattle.words.specs.Words.{wordsIn}
 use Rattle.words.specs.Order.{sorted}
 use Rattle.items.specs.Identity.{nameFrom}
@@ -13,15 +12,12 @@ use Rattle.names.specs.Lookup.{lookup}
 use Rattle.names.specs.declared.lookup.Found.{Found}
 use Rattle.names.specs.declared.lookup.Found.the-variants.{Nothing}
 use Rattle.reader.specs.declared.answer.Answer.{Answer}
+use Rattle.show.specs.Named.{isClass}
 use Rattle.show.specs.declared.span.Span.{Span}
 use Rattle.show.specs.declared.sight.Sight.{Sight}
 use Rattle.show.specs.declared.sight.Sight.the-variants.{Shown, Denied}
 
 -- ---- the place of a name by words
--- "110 isolated node, 120 connected node, 130 edge, 100 feature"
-unfoldable pub isClass : ℕ → Bool
-isClass rcnm = eqb rcnm 110 || (eqb rcnm 120 || (eqb rcnm 130 || eqb rcnm 100))
-
 unfoldable pub placeNamed : List ℕ → ℕ → ℕ → Found
 placeNamed ws rcnm rcid = cond (isClass rcnm) (lookup ws (nameFrom rcnm rcid)) Nothing
 

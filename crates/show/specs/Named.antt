@@ -1,6 +1,6 @@
 -- The record that has a name. Assumes nothing.
 use Prim.Native.Nat.{ℕ, zero, suc, _-_}
-use mathlib.Core.Bool.{Bool, cond, _&&_}
+use mathlib.Core.Bool.{Bool, cond, _&&_, _||_}
 use mathlib.Core.List.{List}
 use lib.Dec.{eqb}
 use Rattle.iso8211.specs.Record.{endOf}
@@ -9,6 +9,10 @@ use Rattle.items.specs.Identity.{rcnmAt, rcidAt}
 use Rattle.names.specs.Names.{firstItem}
 use Rattle.names.specs.declared.lookup.Found.{Found}
 use Rattle.names.specs.declared.lookup.Found.the-variants.{At, Nothing}
+
+-- "110 isolated node, 120 connected node, 130 edge, 100 feature": the classes of vectors and features
+unfoldable pub isClass : ℕ → Bool
+isClass rcnm = eqb rcnm 110 || (eqb rcnm 120 || (eqb rcnm 130 || eqb rcnm 100))
 
 -- "NAME is RCNM, RCID": whether the record at `at` has this name
 unfoldable pub isNamed : List ℕ → ℕ → ℕ → ℕ → Bool

@@ -11,6 +11,7 @@ use names::lookup::Found;
 use reader::Answer;
 use reader::answer::answered;
 
+// The record that is shown, or the answer of a refusal.
 pub enum Sight {
     Shown(Span),
     Denied(Answer),

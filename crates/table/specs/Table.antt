@@ -1,5 +1,5 @@
 -- Document 01's table of fields: tag, formats and labels, with the shape of the entries and the place in the record. Record 0 is checked
--- against it, records are laid out by it, and the held form's record 0 is to be written from it. Assumes nothing.
+-- against it, records are laid out by it, and the held form's record 0 is written from it. Assumes nothing.
 use Prim.Native.Nat.{ℕ, zero, suc, _+_, _*_, _<_}
 use Prim.Native.String.{String}
 use mathlib.Core.Bool.{Bool, true, false, cond}
@@ -11,7 +11,8 @@ use Rattle.table.specs.declared.Kind.{Kind}
 
 -- a row: the tag; the formats and the labels as document 01 writes them; the fixed bytes of a group and whether a text ends it; whether
 -- the group repeats, so that the field is a list; whether it is a control, which only updates have; the kind of record (0 that of DSID,
--- 1 that of DSPM, 2 a vector, 3 a feature) and the place among its fields, fields of one place being alternatives
+-- 1 that of DSPM, 2 a vector, 3 a feature) and the place among its fields, fields of one place being alternatives. DSID, with texts in three
+-- places, is filled by a rule of its own (`dsidLaid`), and its fixed bytes and text here are not used
 pub record Row : Type 0 where
   pub tag : String
   pub formats : String
@@ -104,7 +105,7 @@ FSPC = 16
 abbrev pub FSPT : ℕ
 FSPT = 17
 
--- behind the table: 0001, which stands first in every record; and every other tag
+-- behind the table: 0001, which stands first in every record but record 0; and every other tag, 0000 among them
 abbrev pub first : ℕ
 first = 18
 
@@ -116,7 +117,8 @@ unfoldable pub asNumber : List ℕ → ℕ → ℕ
 asNumber [] led = led
 asNumber (b ∷ bs) led = asNumber bs (led * 256 + b)
 
--- row k; past the table, 0001: two bytes that are free
+-- row k; past the table, 0001: two bytes that are free. A kind past `first` is of no tag that may stand anywhere: record 0 and the places of fields
+-- refuse it before its row is asked for
 unfoldable pub rowOf : ℕ → Row
 unfolding row
 rowOf k = getD table k (row "0001" "(b12)" "" 2 false false false 9 0)

@@ -3,7 +3,8 @@ use Prim.Native.Nat.{ℕ, _+_}
 use mathlib.Core.Bool.{Bool, cond}
 use lib.Dec.{eqb}
 
--- "for Value the first byte of the first subfield that is wrong": the fault of the subfield that begins at i, whose rule holds or not
+-- the fault of the subfield that begins at i, whose rule holds or not. Which byte is named is our own, for a later request: the first byte of the
+-- first subfield that is wrong, the later one where a rule joins two (UPDN with DSNM, DSNM with INTU, a second ATTL)
 unfoldable pub faultAt : ℕ → Bool → ℕ
 faultAt i good = cond good 0 (i + 1)
 

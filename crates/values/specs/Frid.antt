@@ -12,7 +12,7 @@ use Rattle.values.specs.Class.{objlGood}
 unfoldable pub primGood : ℕ → Bool
 primGood b = eqb b 1 || (eqb b 2 || (eqb b 3 || eqb b 255))
 
--- "100 feature"; GRUP is free
+-- "RCNM .. 100 feature", "RCID 1 to 4,294,967,294", "PRIM 1, 2, 3, 255", OBJL, "RVER from 1", "RUIN 1 in cells; .."; GRUP is free
 unfoldable pub fridFault : Bool → List ℕ → ℕ
 fridFault update s =
     first (faultAt 0 (eqb (byteAt s 0) 100))

@@ -9,7 +9,7 @@ use lib.Dec.{leb, eqb}
 unfoldable pub isText : Bool → ℕ → Bool
 isText high b = (leb 32 b && leb b 126) || (high && (leb 160 b && leb b 255))
 
--- every byte is a text byte
+-- every byte is a text byte; none is needed: "An empty value means unknown"
 unfoldable pub textGood : Bool → List ℕ → Bool
 textGood high [] = true
 textGood high (b ∷ bs) = isText high b && textGood high bs

@@ -11,7 +11,7 @@ use Rattle.values.specs.Rule.{rcidGood, rverGood, ruinGood}
 unfoldable pub isVector : ℕ → Bool
 isVector rcnm = eqb rcnm 110 || (eqb rcnm 120 || eqb rcnm 130)
 
--- "RCID 1 to 4,294,967,294", "RVER from 1", "RUIN 1 in cells"
+-- "RCNM .. 110 .., 120 .., 130", "RCID 1 to 4,294,967,294", "RVER from 1", "RUIN 1 in cells; RUIN 1 insert, 2 delete, 3 modify in updates"
 unfoldable pub vridFault : Bool → List ℕ → ℕ
 vridFault update s =
     first (faultAt 0 (isVector (byteAt s 0)))

@@ -1,6 +1,6 @@
 -- What Admit does with the small cell, computed to the bytes. Assumes nothing.
 use Prim.Native.Nat.{ℕ, _≤_}
-use mathlib.Core.List.{List, _++_}
+use mathlib.Core.List.{List, [], _∷_, _++_}
 use mathlib.Core.Path.{_≡_, refl, ap, _∙_}
 use native.Mathlib.Omega.{arith}
 use lib.ListN.{length, drop, length-replicate}
@@ -8,6 +8,7 @@ use Rattle.reader.specs.Reader.{answer}
 use Rattle.reader.specs.declared.answer.Answer.{Answer}
 use Rattle.held.specs.Held.{heldOf}
 use Rattle.loader.specs.Admit.{admitOf, admitArea}
+use Rattle.loader.specs.Answer.{answerArea}
 use Rattle.demands.specs.Cell.{Bytes, recordsIn, countIn, cellChart}
 use Rattle.demands.proofs.Admit.{Admissible, admitted-exactly, admit-writes}
 use Rattle.witness.specs.SmallCell.{small}
@@ -68,3 +69,9 @@ pub small-admitted : (w : ℕ) (out : List ℕ) → 112 ≤ w → 2077 ≤ lengt
 small-admitted w out work room =
     let t = admit-writes small w out (small-accepted w (length out) work room) in
     (rw length-here at (t .answered), rw (length-here, small-held) at (t .area))
+
+-- what a host program in C finds in its answer area: 2,077 is 29 + 256 * 8
+pub small-told : answerArea (1 ∷ 1 ∷ 1 ∷ 1 ∷ 1 ∷ 1 ∷ 1 ∷ 1 ∷ 1 ∷ 1 ∷ 1 ∷ 1 ∷ 1 ∷ 1 ∷ 1 ∷ 1 ∷ []) (admitOf small 112 2077)
+    ≡ 0 ∷ 0 ∷ 0 ∷ 0 ∷ 0 ∷ 0 ∷ 0 ∷ 0 ∷ 0 ∷ 0 ∷ 0 ∷ 0 ∷ 29 ∷ 8 ∷ 0 ∷ 0 ∷ []
+unfolding judging
+small-told = rw done

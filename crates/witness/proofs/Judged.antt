@@ -1,4 +1,5 @@
 -- What Judge answers to the small cells, computed: it accepts both, and with one byte changed gives each of the codes 2, 4 to 8 and 17 to 19. Assumes nothing.
+use Prim.Native.Nat.{ℕ, _≤_}
 use mathlib.Core.List.{[], _∷_}
 use mathlib.Core.Path.{_≡_, refl}
 use lib.ListN.{set}
@@ -7,21 +8,28 @@ use Rattle.loader.specs.Judge.{judgeOf}
 use Rattle.loader.specs.Answer.{answerArea}
 use Rattle.witness.specs.SmallCell.{small, ringed}
 use Rattle.witness.proofs.Computing.{judging, smallFiles}
+use Rattle.witness.proofs.WorkLaws.{judge-more}
 
 -- ---- accepted: seven records want 112 bytes of work
-pub small-judged : judgeOf small 112 ≡ answer 0 0 0 0 0
+small-here : judgeOf small 112 ≡ answer 0 0 0 0 0
 unfolding judging smallFiles
-small-judged = refl
+small-here = refl
 
-pub ringed-judged : judgeOf ringed 112 ≡ answer 0 0 0 0 0
+pub small-judged : (w : ℕ) → 112 ≤ w → judgeOf small w ≡ answer 0 0 0 0 0
+small-judged w work = judge-more small 112 w work small-here
+
+ringed-here : judgeOf ringed 112 ≡ answer 0 0 0 0 0
 unfolding judging smallFiles
-ringed-judged = refl
+ringed-here = refl
+
+pub ringed-judged : (w : ℕ) → 112 ≤ w → judgeOf ringed w ≡ answer 0 0 0 0 0
+ringed-judged w work = judge-more ringed 112 w work ringed-here
 
 -- what a host program in C finds in its answer area of 16 bytes, which was all ones
 pub small-told : answerArea (1 ∷ 1 ∷ 1 ∷ 1 ∷ 1 ∷ 1 ∷ 1 ∷ 1 ∷ 1 ∷ 1 ∷ 1 ∷ 1 ∷ 1 ∷ 1 ∷ 1 ∷ 1 ∷ []) (judgeOf small 112)
     ≡ 0 ∷ 0 ∷ 0 ∷ 0 ∷ 0 ∷ 0 ∷ 0 ∷ 0 ∷ 0 ∷ 0 ∷ 0 ∷ 0 ∷ 0 ∷ 0 ∷ 0 ∷ 0 ∷ []
 unfolding judging
-small-told = rw small-judged
+small-told = rw small-here
 
 -- a byte of work too few: 3, with the bytes needed
 pub small-work : judgeOf small 111 ≡ answer 3 0 0 112 0

@@ -2,6 +2,7 @@
 pub mod Computing
 pub mod BytesLaws
 pub mod HeldLaws
+pub mod WorkLaws
 pub mod Judged
 pub mod Admitted
 pub mod Applied

@@ -1,1 +1,1 @@
-// Small files as bytes, and what the calls of `loader` say of them, computed: no code.
+// Small files as bytes, what the calls of `loader` do with them, computed, and the loaders that they shut out: no code.

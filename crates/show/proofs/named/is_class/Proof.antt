@@ -1,6 +1,6 @@
 -- The tests of the definition, one after the other. Assumes nothing.
 use Rattle.octets.proofs.Tests.{tests}
-use Rattle.show.specs.Listed.{isClass}
+use Rattle.show.specs.Named.{isClass}
 use Rattle.show.proofs.named.is_class.Statement.{statement}
 use Rattle.show.proofs.named.is_class.Tie as tie
 
