@@ -142,7 +142,9 @@ uint32_t s57_admit(const uint8_t *cell, size_t cell_len, uint8_t *out, size_t ou
 
    A unit that keeps a chart holds the bytes that s57_admit wrote, as many as number says. At each update that it is offered it calls this on them; where
    that gives 0, the bytes written here, as many as number says, take their place, else it keeps what it has. Then it holds the base with every
-   update up to its number, each once and in order, whatever it was offered: an update that is in already, or comes too early, is S57_NUMBER.
+   update up to its number, each once and in order, in whatever order and however often files are offered: an update that is in already, or comes too early,
+   is S57_NUMBER. Two units of one base that show one number hold equal bytes as long as no two different updates of that chart and edition with one number
+   are about: of two such a unit takes the one that it is offered first.
 
    The number that the screen shows is that of the unit's cell, and the host reads it there, since the answer has no update number: UPDN in DSID, which is
    the second field of record 1. Beside it stand DSNM (the name), EDTN (the edition), UADT and ISDT (the dates). The result keeps the cell's DSID,

@@ -66,7 +66,7 @@ pub data Finds : List (List ℕ) → List (List ℕ) → Type 0 where
   finds-more : {held : List (List ℕ)} {e : List ℕ} {more : List (List ℕ)} → (isRemoval e ≡ true → named labelOf (labelOf e) held ≡ true)
       → Finds (change labelOf isRemoval e held) more → Finds held (e ∷ more)
 
--- a list of kind k in a modify: attributes; entries with a control, "a control acts on its list"; "a list without control is refused"
+-- a list of kind k in a modify: attributes; entries with a control, "A control .. acts on its list"; "a list without control is refused"
 pub data ListKept (u : Edit) (held : ℕ → List (List ℕ)) (k : ℕ) : Type 0 where
   by-label : isAttributes k ≡ true → Finds (held k) (u .lists k) → ListKept u held k
   by-control : {c : Control} → isAttributes k ≡ false → controlOf u held k ≡ some c → Allowed c (length (held k)) (length (u .lists k)) → ListKept u held k

@@ -31,8 +31,8 @@ objlAt s at = numAt s (idAt s at + 7) 2
 unfoldable pub foidAt : List ℕ → ℕ → ℕ
 foidAt s at = numAt s (fieldAt s at 2 .start) 8
 
--- "RCNM 110 isolated node, 120 connected node, 130 edge, 100 feature", in the order of the held form: "vectors by class 110, 120, 130,
--- then features"
+-- "RCNM .. 110 isolated node, 120 connected node, 130 edge, 100 feature", in the order of the held form: "vectors by class 110, 120, 130,
+-- then features". Any other number ranks as a feature: Value has seen that there is none
 unfoldable pub rankOf : ℕ → ℕ
 rankOf rcnm = cond (eqb rcnm 110) 0 (cond (eqb rcnm 120) 1 (cond (eqb rcnm 130) 2 3))
 

@@ -1,4 +1,4 @@
--- The sample of document 01 and a refusal, computed. Assumes nothing.
+-- The text of document 01's sample from the numbers of its lines, and that of a refusal, computed. Assumes nothing.
 use mathlib.Core.List.{[], _∷_, _++_}
 use mathlib.Core.Path.{_≡_, refl}
 use Rattle.octets.specs.Digits.{digitsOf, fewest, fewestFrom}
@@ -20,7 +20,7 @@ long : refusedText 1 1 0 ≡ bytes "refused\t1\t1\t0\n"
 unfolding bytes digitsOf fewest fewestFrom numberText tabbed refusedText
 long = refl
 
--- the place of the last line that a cell can have
+-- a place of four digits: of 65,536 bytes there are fewer records than 2,048, each having 32 bytes at least
 place : numberText 2047 ≡ bytes "2047"
 unfolding bytes digitsOf fewest fewestFrom numberText
 place = refl

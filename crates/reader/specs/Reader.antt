@@ -68,7 +68,7 @@ cellAnswer cell w (Refused a) = a
 unfoldable pub readCell : List ℕ → ℕ → Answer
 readCell cell w = cellAnswer cell w (frontOf 1 cell)
 
--- a cell and an update: "cell 1, 2; update 1, 2; 3; cell 4, 5/6, 7, 8; update 4, 5/6, 7"
+-- a cell and an update: "cell 1, 2; update 1, 2; 3; cell 4, then 5 before 6 record by record, 7, 8; update 4, 5/6, 7"
 unfoldable pub firstRefusal : Refusal → Answer → Answer
 firstRefusal r on = cond (eqb (r .code) 0) on (filed 1 r)
 

@@ -33,7 +33,7 @@ too-far-west : pairGood 10000000 (0 ∷ 0 ∷ 0 ∷ 0 ∷ 255 ∷ 45 ∷ 182 ∷
 unfolding numAt magnitude pairGood
 too-far-west = refl
 
--- "MASK 255 if USAG is 3, else 1 or 2": an edge of the cell's border, and the same in a line
+-- "MASK 255 if USAG is 3, else 1 or 2": an edge of the cell's border; then "PRIM 2: .. USAG 255" of a line
 border : areaGood (130 ∷ 1 ∷ 0 ∷ 0 ∷ 0 ∷ 1 ∷ 3 ∷ 255 ∷ []) ≡ true
 unfolding oneOrTwo areaGood
 border = refl
