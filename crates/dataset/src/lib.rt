@@ -7,6 +7,8 @@ ghost use lib.ListN.{length};
 ghost use Rattle.dataset.specs.Dsid.{dsidEnds, Filled, DsidLaid, dsidLaid, isCode, codesAt, extensionGood, dsnmGood, updnGood};
 ghost use Rattle.dataset.specs.Dsid.{uadtGood, stedGood, predGood, headFault, namesFault, issueFault, productFault, dsidFault};
 use date::date_good;
+use octets::digits::get_digits;
+use octets::number::wide;
 use values::fault::fault_at;
 use values::fault::first;
 use values::rule::digits_within;
@@ -15,8 +17,6 @@ use values::rule::rcid_good;
 use values::rule::within;
 use values::text::text_end;
 use values::text::text_good_in;
-use octets::digits::get_digits;
-use octets::number::wide;
 
 pub mod date;
 

@@ -6,9 +6,9 @@ ghost use Rattle.iso8211.specs.Same.{sameList};
 ghost use Rattle.formats.specs.Formats.{formsOf, writtenAt};
 ghost use Rattle.table.specs.Text.{bytes};
 ghost use Rattle.table.specs.Table.{rowOf};
-use iso8211::descriptive::same_bytes;
 use formats::Formats;
 use formats::write_out;
+use iso8211::descriptive::same_bytes;
 
 // Whether the bytes from `from` to `to` are the labels of kind k, a field of the data set's records or
 // of a vector.
