@@ -2,4 +2,3 @@
 pub mod Controls
 pub mod Sides
 pub mod Pairs
-pub mod Record

@@ -60,7 +60,14 @@ fn wide_room() -> [u8; 200500]
 }
 
 // The same, in areas of its own.
-fn amended_apart(cell: &[u8], n: usize, update: &[u8], m: usize, work: &mut [u8], out: &mut [u8]) -> Answer
+fn amended_apart(
+    cell: &[u8],
+    n: usize,
+    update: &[u8],
+    m: usize,
+    work: &mut [u8],
+    out: &mut [u8],
+) -> Answer
     requires { ⌜ Amending (now cell) n (now update) m (now work) ⌝ }
     ensures { λ r. ⌜ r ≡ amendedAnswer (now (cell .entry)) n (now (update .entry)) m (length (now (out .entry))) ⌝ }
     ensures { λ r. ⌜ now (out .exit) ≡ areaBy r (resultOf (now (cell .entry)) n (now (update .entry)) m) (now (out .entry)) ⌝ }
@@ -68,11 +75,28 @@ fn amended_apart(cell: &[u8], n: usize, update: &[u8], m: usize, work: &mut [u8]
     let mut join = wide_join();
     let mut table = blank_table();
     let mut room = wide_room();
-    amended(cell, n, update, m, work, &mut join, &mut table, &mut room, out)
+    amended(
+        cell,
+        n,
+        update,
+        m,
+        work,
+        &mut join,
+        &mut table,
+        &mut room,
+        out,
+    )
 }
 
 // Codes 9 to 12, then these.
-pub fn changed(cell: &[u8], n: usize, update: &[u8], m: usize, work: &mut [u8], out: &mut [u8]) -> Answer
+pub fn changed(
+    cell: &[u8],
+    n: usize,
+    update: &[u8],
+    m: usize,
+    work: &mut [u8],
+    out: &mut [u8],
+) -> Answer
     requires { ⌜ Before (now cell) n (now update) m (now work) ⌝ }
     ensures { λ r. ⌜ r ≡ changeAnswer (now (cell .entry)) n (now (update .entry)) m (length (now (out .entry))) ⌝ }
     ensures { λ r. ⌜ now (out .exit) ≡ areaBy r (resultOf (now (cell .entry)) n (now (update .entry)) m) (now (out .entry)) ⌝ }

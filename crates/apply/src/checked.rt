@@ -11,7 +11,14 @@ use reader::both::both_fault;
 
 // A framed cell of n records and a framed update of m: code 3, then 4 to 8 of the cell, 4 to 7 of the
 // update, then what comes of the two.
-pub fn applied(cell: &[u8], n: usize, update: &[u8], m: usize, out: &mut [u8], work: &mut [u8]) -> Answer
+pub fn applied(
+    cell: &[u8],
+    n: usize,
+    update: &[u8],
+    m: usize,
+    out: &mut [u8],
+    work: &mut [u8],
+) -> Answer
     requires { ⌜ Short (now cell) n × Short (now update) m ⌝ }
     ensures { λ r. ⌜ r ≡ applyChecked (now (cell .entry)) n (now (update .entry)) m (length (now (work .entry))) (length (now (out .entry))) ⌝ }
     ensures { λ r. ⌜ now (out .exit) ≡ areaBy r (resultOf (now (cell .entry)) n (now (update .entry)) m) (now (out .entry)) ⌝ }

@@ -42,7 +42,18 @@ fn result_into(
     if out.len() < total {
         return answered(21, 0, 0, total, 0);
     }
-    put_result(cell, update, work, end, count, edits, join, table, room, out);
+    put_result(
+        cell,
+        update,
+        work,
+        end,
+        count,
+        edits,
+        join,
+        table,
+        room,
+        out,
+    );
     answered(0, 0, 0, total, 0)
 }
 
@@ -65,12 +76,34 @@ fn judged_into(
     ensures { λ r. ⌜ now (out .exit) ≡ areaBy r (renewedIn (now (cell .entry)) (now (update .entry)) (now (work .entry)) end count edits) (now (out .entry)) ⌝ }
 {
     let comf = comf_of(cell, n);
-    let r = result_fault(cell, update, comf, work, end, count, edits, join, table, room);
+    let r = result_fault(
+        cell,
+        update,
+        comf,
+        work,
+        end,
+        count,
+        edits,
+        join,
+        table,
+        room,
+    );
     let code = r.code;
     if code != 0 {
         return filed(3, r);
     }
-    result_into(cell, update, work, end, count, edits, join, table, room, out)
+    result_into(
+        cell,
+        update,
+        work,
+        end,
+        count,
+        edits,
+        join,
+        table,
+        room,
+        out,
+    )
 }
 
 // The words of the result woven of those of the two files, then these.
@@ -93,5 +126,17 @@ pub fn merged(
     let j = m - 2;
     let end = 2 * (i + j);
     let w = woven(update, i, j, work);
-    judged_into(cell, n, update, work, end, w.count, w.edits, join, table, room, out)
+    judged_into(
+        cell,
+        n,
+        update,
+        work,
+        end,
+        w.count,
+        w.edits,
+        join,
+        table,
+        room,
+        out,
+    )
 }

@@ -6,7 +6,7 @@ use mathlib.Core.Logic.{_⊎_}
 use mathlib.Core.Path.{_≡_}
 use lib.ListN.{length}
 use Rattle.table.specs.Table.{SG2D, SG3D}
-use Rattle.values.specs.Date.{dateGood}
+use Rattle.dataset.specs.Date.{dateGood}
 use Rattle.values.specs.Vrid.{isVector}
 use Rattle.values.specs.Frid.{primGood}
 use Rattle.values.specs.Class.{objlGood}

@@ -18,7 +18,7 @@ use Rattle.iso8211.specs.Field.{countAt, fieldAt, FramedAt, FieldIn, RecordIn}
 use Rattle.iso8211.specs.declared.field.Field.{Field}
 use Rattle.entries.specs.Entries.{Whole}
 use Rattle.table.specs.Table.{table, rowOf, kindOf, DSID, DSSI, DSPM, VRID, ATTV, FRID, ATTF, NATF, FFPT}
-use Rattle.values.specs.Dsid.{dsidFault}
+use Rattle.dataset.specs.Dsid.{dsidFault}
 use Rattle.values.specs.Dssi.{dssiFault}
 use Rattle.values.specs.Dspm.{dspmFault}
 use Rattle.values.specs.Vrid.{vridFault}

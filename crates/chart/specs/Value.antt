@@ -9,7 +9,7 @@ use Rattle.iso8211.specs.Field.{countAt, fieldAt}
 use Rattle.iso8211.specs.declared.field.Field.{Field}
 use Rattle.table.specs.Table.{kindOf, DSID, DSSI, DSPM, VRID, ATTV, FRID, ATTF, NATF, FFPT}
 use Rattle.layout.specs.Layout.{contentOf, start}
-use Rattle.values.specs.Dsid.{dsidFault}
+use Rattle.dataset.specs.Dsid.{dsidFault}
 use Rattle.values.specs.Dssi.{dssiFault}
 use Rattle.values.specs.Dspm.{dspmFault}
 use Rattle.values.specs.Vrid.{vridFault}

@@ -6,7 +6,7 @@ use Rattle.iso8211.specs.Record.{endOf}
 use Rattle.iso8211.specs.Field.{fieldAt}
 use Rattle.iso8211.specs.File.{recordAt}
 use Rattle.table.specs.Table.{rowOf}
-use Rattle.values.specs.Dsid.{updnEnd}
+use Rattle.dataset.specs.Dsid.{updnEnd}
 use Rattle.layout.specs.Record.{contentAt}
 use Rattle.chart.specs.Value.{isAttributes}
 use Rattle.attributes.specs.Attributes.{labelOf, isRemoval}

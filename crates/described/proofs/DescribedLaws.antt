@@ -9,12 +9,12 @@ use lib.Dec.{eqb, ltb}
 use borrow.Author.Tests.{lt-ltb, le-ltb, le-leb, lt-leb, eq-eqb, ne-eqb}
 use Rattle.octets.proofs.Tests.{told-no, told-yes}
 use Rattle.iso8211.specs.Same.{sameList}
-use Rattle.iso8211.specs.Formats.{formsOf, writtenAt}
+use Rattle.formats.specs.Formats.{formsOf, writtenAt}
 use Rattle.iso8211.specs.Descriptive.{partsOf}
 use Rattle.iso8211.specs.Field.{countAt, fieldAt, RecordIn}
 use Rattle.iso8211.specs.declared.descriptive.Parts.{Parts}
 use Rattle.iso8211.specs.declared.field.Field.{Field}
-use Rattle.iso8211.specs.declared.formats.Formats.{Formats}
+use Rattle.formats.specs.declared.Formats.{Formats}
 use Rattle.table.specs.Text.{bytes}
 use Rattle.table.specs.Table.{rowOf, kindOf}
 use Rattle.described.specs.Described.{fieldBytes, labelsIn, formatsIn, sameFormats, describes, none, describedFrom, describedOf}

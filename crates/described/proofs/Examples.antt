@@ -8,8 +8,8 @@ use Rattle.iso8211.specs.Directory.{tagAt, rowAt, rows}
 use Rattle.iso8211.specs.Field.{countAt, directoryAt, fieldAt}
 use Rattle.iso8211.specs.Descriptive.{separatorIn, separatorAt, partsAt, partsOf}
 use Rattle.iso8211.specs.Same.{sameList}
-use Rattle.iso8211.specs.Formats as Formats
-use Rattle.iso8211.specs.Formats.{digitAt, shortFrom, shortAt, isLetter, closed, sizedAt, counts, binaryAt, primitiveAt, single, repeated, joined, followed, itemAt, itemsFrom, listAt, writtenAt}
+use Rattle.formats.specs.Formats as Formats
+use Rattle.formats.specs.Formats.{digitAt, shortFrom, shortAt, isLetter, closed, sizedAt, counts, binaryAt, primitiveAt, single, repeated, joined, followed, itemAt, itemsFrom, listAt, writtenAt}
 use Rattle.table.specs.Text.{bytes}
 use Rattle.table.specs.Table.{asNumber, rowOf, table, among, kindOf}
 use Rattle.described.specs.Described.{labelsIn, formatsIn, sameFormats, describes, describedFrom, describedOf}

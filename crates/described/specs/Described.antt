@@ -4,7 +4,7 @@ use mathlib.Core.Bool.{Bool, cond, _&&_}
 use mathlib.Core.List.{List, [], _∷_, _++_}
 use lib.ListN.{length, take, drop, getD, set, replicate}
 use lib.Dec.{eqb, leb, ltb}
-use Rattle.iso8211.specs.Formats.{writtenAt}
+use Rattle.formats.specs.Formats.{writtenAt}
 use Rattle.iso8211.specs.Descriptive.{partsOf}
 use Rattle.iso8211.specs.Same.{sameList}
 use Rattle.iso8211.specs.Field.{countAt, fieldAt}

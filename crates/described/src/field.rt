@@ -7,10 +7,10 @@ ghost use Rattle.table.specs.Table.{rowOf};
 ghost use Rattle.described.specs.Described.{fieldBytes, sameFormats, describes};
 use crate::texts::formats_of;
 use crate::texts::labels_same;
+use formats::same_formats;
+use formats::write_out;
 use iso8211::descriptive::cut;
 use iso8211::field::Field;
-use iso8211::formats::same_formats;
-use iso8211::formats::write_out;
 
 // Whether the bytes from `from` to `to` are a format list and nothing after, and written out that of
 // kind k.

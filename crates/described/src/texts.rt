@@ -3,12 +3,12 @@ ghost use mathlib.Core.Path.{_≡_};
 ghost use Prim.Native.Nat.{_-_, _≤_, _<_};
 ghost use lib.ListN.{length, take, drop};
 ghost use Rattle.iso8211.specs.Same.{sameList};
-ghost use Rattle.iso8211.specs.Formats.{formsOf, writtenAt};
+ghost use Rattle.formats.specs.Formats.{formsOf, writtenAt};
 ghost use Rattle.table.specs.Text.{bytes};
 ghost use Rattle.table.specs.Table.{rowOf};
+use formats::Formats;
+use formats::write_out;
 use iso8211::descriptive::same_bytes;
-use iso8211::formats::Formats;
-use iso8211::formats::write_out;
 
 // Whether the bytes from `from` to `to` are the labels of kind k, a field of the data set's records or
 // of a vector.

@@ -21,10 +21,10 @@ use Rattle.values.specs.Fault.{faultAt}
 use Rattle.values.specs.Fault as fault
 use Rattle.values.specs.Rule.{within, rcidGood, digitsWithin}
 use Rattle.values.specs.Text.{untilEnd, textEnd}
-use Rattle.values.specs.Date.{dateGood}
-use Rattle.values.specs.Dsid.{dsnmEnd, edtnEnd, updnEnd, psdnEnd, predEnd, comtEnd, dsidEnds, DsidLaid, dsidLaid, codesAt, dsnmGood, edtnGood}
-use Rattle.values.specs.Dsid.{updnDigits, updnGood, uadtGood, stedGood, predGood, headFault, namesFault, issueFault, productFault, dsidOver, dsidFault}
-use Rattle.values.proofs.DsidLaws.{dsid-laid}
+use Rattle.dataset.specs.Date.{dateGood}
+use Rattle.dataset.specs.Dsid.{dsnmEnd, edtnEnd, updnEnd, psdnEnd, predEnd, comtEnd, dsidEnds, DsidLaid, dsidLaid, codesAt, dsnmGood, edtnGood}
+use Rattle.dataset.specs.Dsid.{updnDigits, updnGood, uadtGood, stedGood, predGood, headFault, namesFault, issueFault, productFault, dsidOver, dsidFault}
+use Rattle.dataset.proofs.DsidLaws.{dsid-laid}
 use Rattle.header.specs.Dsid.{Dsid, shortest, editionIn, numberIn, dsidWith, dsidOf, dsidBytes, revised}
 use Rattle.header.specs.Known.{Known, dated}
 use Rattle.objects.proofs.IdLaws.{has-self}

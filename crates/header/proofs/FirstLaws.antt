@@ -12,9 +12,9 @@ use Rattle.iso8211.specs.Leader.{kindGood, sizeGood, leaderGood}
 use Rattle.iso8211.specs.Directory.{tagAt, rowAt, rows}
 use Rattle.iso8211.specs.Record.{fieldGood, inRow, bodyGood, recordGood, endOf}
 use Rattle.iso8211.specs.Field.{countAt, directoryAt, fieldAt}
-use Rattle.iso8211.specs.Formats as formats
-use Rattle.iso8211.specs.Formats.{digitAt, shortFrom, shortAt, isLetter, closed, sizedAt, counts, binaryAt, primitiveAt, single, repeated, joined, followed, itemAt, itemsFrom}
-use Rattle.iso8211.specs.Formats.{listAt, writtenAt}
+use Rattle.formats.specs.Formats as formats
+use Rattle.formats.specs.Formats.{digitAt, shortFrom, shortAt, isLetter, closed, sizedAt, counts, binaryAt, primitiveAt, single, repeated, joined, followed, itemAt, itemsFrom}
+use Rattle.formats.specs.Formats.{listAt, writtenAt}
 use Rattle.iso8211.specs.Descriptive.{partsOf, partsAt, separatorAt, separatorIn}
 use Rattle.iso8211.specs.Same.{sameList}
 use Rattle.table.specs.Table.{rowOf, table, tagOf, kindOf, among, asNumber}

@@ -11,8 +11,8 @@ use Rattle.octets.specs.Area.{Wrote}
 use Rattle.octets.proofs.AreaLaws.{wrote-join, wrote-as, wrote-length}
 use Rattle.octets.proofs.NumberLaws.{wrote-to}
 use Rattle.octets.proofs.DigitsLaws.{digits-length}
-use Rattle.values.specs.Dsid.{dsidEnds, updnEnd}
-use Rattle.values.specs.declared.dsid.Ends.{Ends}
+use Rattle.dataset.specs.Dsid.{dsidEnds, updnEnd}
+use Rattle.dataset.specs.declared.Ends.{Ends}
 use Rattle.names.specs.declared.counts.Tally.{Tally}
 use Rattle.header.specs.Dsid.{shortest, editionIn, numberIn, dsidWith, dsidOf, dsidBytes, revised}
 use Rattle.header.specs.Dssi.{featureCounts, vectorCounts, dssiBytes}

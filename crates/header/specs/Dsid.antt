@@ -3,7 +3,7 @@ use Prim.Native.Nat.{ℕ, _+_, _-_}
 use mathlib.Core.List.{List, [], _∷_, _++_}
 use lib.ListN.{take, drop}
 use Rattle.octets.specs.Digits.{numberAt, digitsOf, fewest}
-use Rattle.values.specs.Dsid.{dsnmEnd, edtnEnd, updnEnd}
+use Rattle.dataset.specs.Dsid.{dsnmEnd, edtnEnd, updnEnd}
 
 -- RCNM to DSNM, with the 1F behind it; EDTN and UPDN; UADT and ISDT, eight bytes each; STED to COMT as they stand
 pub record Dsid : Type 0 where

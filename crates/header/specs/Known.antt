@@ -3,8 +3,8 @@ use Prim.Native.Nat.{ℕ, _+_, _≤_, _<_}
 use mathlib.Core.List.{List}
 use mathlib.Core.Path.{_≡_}
 use lib.ListN.{length, take, drop}
-use Rattle.values.specs.Dsid.{dsnmEnd, edtnEnd, updnEnd}
-use Rattle.values.specs.declared.dsid.Ends.{Ends}
+use Rattle.dataset.specs.Dsid.{dsnmEnd, edtnEnd, updnEnd}
+use Rattle.dataset.specs.declared.Ends.{Ends}
 use Rattle.header.specs.Dsid.{Dsid, dsid, editionIn, numberIn, dsidBytes}
 use Rattle.header.specs.declared.dsid.Parts.{Parts}
 

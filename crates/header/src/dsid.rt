@@ -7,14 +7,14 @@ ghost use Rattle.octets.specs.Area.{Wrote};
 ghost use Rattle.octets.specs.Digits.{fewest};
 ghost use Rattle.header.specs.Dsid.{shortest, dsidWith, dsidOf, dsidBytes, revised};
 ghost use Rattle.header.specs.Known.{Known, EndsKnown, PartsOf, SizeWith, dated};
-ghost use Rattle.values.specs.Dsid.{dsidEnds};
+ghost use Rattle.dataset.specs.Dsid.{dsidEnds};
+use dataset::Ends;
+use dataset::dsid_ends;
 use octets::area::copy;
 use octets::digits::fewest_digits;
 use octets::digits::get_digits;
 use octets::digits::put_digits;
 use octets::number::put1;
-use values::dsid::Ends;
-use values::dsid::dsid_ends;
 
 // EDTN and UPDN as numbers, and where UADT begins.
 pub struct Parts {

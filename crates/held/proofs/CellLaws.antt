@@ -19,7 +19,7 @@ use Rattle.iso8211.proofs.Promise.{record-in, at-next, last-ends}
 use Rattle.words.specs.Order.{isIn}
 use Rattle.table.specs.Table.{rowOf, table, DSID, DSSI, VRID, FRID}
 use Rattle.values.specs.Fault as fault
-use Rattle.values.specs.Dsid.{dsidLaid, dsidFault}
+use Rattle.dataset.specs.Dsid.{dsidLaid, dsidFault}
 use Rattle.values.specs.Dssi.{dssiFault}
 use Rattle.values.specs.Dspm.{dspmLaid, dspmFault}
 use Rattle.layout.specs.Layout.{opens, mayEnd, filled, layoutFault, start}

@@ -3,7 +3,7 @@ use Prim.Native.Nat.{ℕ, _+_, _≤_}
 use mathlib.Core.Bool.{true, false}
 use mathlib.Core.List.{List, [], _∷_}
 use mathlib.Core.Path.{_≡_}
-use Rattle.values.specs.Dsid.{dsidLaid, dsidFault}
+use Rattle.dataset.specs.Dsid.{dsidLaid, dsidFault}
 use Rattle.values.specs.Dspm.{dspmLaid, dspmFault}
 use Rattle.objects.specs.Object.{Object}
 use Rattle.objects.specs.Good.{Vector, Feature}

@@ -4,7 +4,4 @@ pub mod RecordLaws
 pub mod FileLaws
 pub mod Promise
 pub mod SameLaws
-pub mod FormatsLaws
-pub mod FormatsBounds
 pub mod DescriptiveLaws
-pub mod FormatsExamples

@@ -5,5 +5,4 @@ pub mod Record
 pub mod File
 pub mod Field
 pub mod Same
-pub mod Formats
 pub mod Descriptive

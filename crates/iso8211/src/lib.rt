@@ -6,7 +6,6 @@ pub mod descriptive;
 pub mod directory;
 pub mod field;
 pub mod file;
-pub mod formats;
 pub mod leader;
 pub mod record;
 

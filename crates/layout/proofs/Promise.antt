@@ -21,9 +21,9 @@ use Rattle.iso8211.specs.File.{frameOf, recordAt}
 use Rattle.iso8211.specs.declared.file.Framed.the-variants.{Records}
 use Rattle.entries.specs.Entries.{Whole, entriesOf}
 use Rattle.entries.proofs.EntriesLaws.{whole-good}
-use Rattle.values.specs.Dsid.{DsidLaid}
+use Rattle.dataset.specs.Dsid.{DsidLaid}
 use Rattle.values.specs.Dspm.{DspmLaid}
-use Rattle.values.proofs.DsidLaws.{dsid-laid}
+use Rattle.dataset.proofs.DsidLaws.{dsid-laid}
 use Rattle.values.proofs.DspmLaws.{dspm-laid}
 use Rattle.table.specs.Table.{table, rowOf, first, DSID, DSSI, DSPM, VRID, FRID, FOID}
 use Rattle.layout.specs.Layout.{opens, follows, placed, mayEnd, filled, shapeOf, fieldLaid, laidFrom, layoutFault, start}

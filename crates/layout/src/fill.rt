@@ -3,10 +3,10 @@ ghost use mathlib.Core.Path.{_≡_};
 ghost use Rattle.layout.specs.Layout.{filled};
 use crate::place::DSID;
 use crate::place::DSPM;
+use dataset::dsid_laid;
 use entries::Shape;
 use entries::whole;
 use table::kind_row;
-use values::dsid::dsid_laid;
 use values::dspm::dspm_laid;
 
 // Whether the bytes of a field of kind k, without its closing 1E, hold its subfields and no more.

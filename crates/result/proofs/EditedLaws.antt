@@ -12,7 +12,7 @@ use Rattle.merge.specs.Words.{markOf, offsetOf}
 use Rattle.merge.specs.declared.walk.At.{At}
 use Rattle.changes.specs.Change.{amendmentAt}
 use Rattle.changes.specs.Updated.{amended}
-use Rattle.amend.specs.Record.{Editable, EditedPut}
+use Rattle.rebuild.specs.Record.{Editable, EditedPut}
 use Rattle.result.specs.Result.{objectBy, changedBy, objectOf}
 use Rattle.result.specs.Able.{Able}
 

@@ -13,7 +13,7 @@ use Rattle.merge.specs.Words.{markOf, offsetOf}
 use Rattle.merge.specs.Places.{placesOf, Woof}
 use Rattle.merge.specs.declared.walk.At.{At}
 use Rattle.amend.specs.Sides.{Areas}
-use Rattle.amend.specs.Record.{Editable}
+use Rattle.rebuild.specs.Record.{Editable}
 use Rattle.verdict.specs.Verdict.{objectItem}
 use Rattle.result.specs.Result.{objectOf}
 

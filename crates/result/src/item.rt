@@ -8,8 +8,8 @@ ghost use Rattle.writing.specs.Plain.{Stood};
 ghost use Rattle.verdict.specs.Verdict.{objectItem};
 ghost use Rattle.result.specs.Result.{objectOf};
 ghost use Rattle.result.specs.Able.{Able, Rooms};
-use amend::record::put_edited_record;
 use merge::At;
+use rebuild::record::put_edited_record;
 use topology::item_code;
 use topology::note::note_at;
 

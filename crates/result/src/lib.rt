@@ -119,5 +119,17 @@ pub fn result_fault(
     ensures { λ _. ⌜ Rooms (now (join .exit)) (now (table .exit)) (now (room .exit)) ⌝ }
 {
     let v = prepare(cell, update, work, end, count, edits, join, table, room);
-    items_fault(cell, update, comf, work, end, count, edits, v, join, table, room)
+    items_fault(
+        cell,
+        update,
+        comf,
+        work,
+        end,
+        count,
+        edits,
+        v,
+        join,
+        table,
+        room,
+    )
 }

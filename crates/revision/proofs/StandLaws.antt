@@ -37,8 +37,8 @@ use Rattle.changes.specs.Good.ObjectBrought.{brought-vector, brought-feature}
 use Rattle.changes.proofs.FollowLaws.{follows-told}
 use Rattle.changes.proofs.ObjectLaws.{amended-object}
 use Rattle.amend.specs.Pairs.{Paired}
-use Rattle.amend.specs.Record.{Editable}
-use Rattle.amend.proofs.SumLaws.{record-sums, kinds-apart}
+use Rattle.rebuild.specs.Record.{Editable}
+use Rattle.rebuild.proofs.SumLaws.{record-sums, kinds-apart}
 use Rattle.amendments.specs.Amendable.{Amendable}
 use Rattle.amendments.proofs.AmendableLaws.{pair, object-good, stand-named, all-amendable}
 use Rattle.amendments.proofs.LookupLaws.{code-some}

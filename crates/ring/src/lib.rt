@@ -66,7 +66,7 @@ fn rings_closed(s: &[u8], at: usize, h: Head, work: &[u8], m: usize, v: usize) -
                 continue 'rings;
             }
             let Next::Entry(from, to, after) = next(s, at, h, FSPT, c) else {
-                return false;
+                break 'rings;
             };
             let Taken::Edge(u) = step_of(&s[from..to], work, m, v) else {
                 break 'rings;

@@ -27,7 +27,13 @@ pub extern "C" fn s57_admit(cell: &[u8], out: &mut [u8], work: &mut [u8], answer
 }
 
 #[no_mangle]
-pub extern "C" fn s57_apply(cell: &[u8], update: &[u8], out: &mut [u8], work: &mut [u8], answer: &mut [u8]) -> u32
+pub extern "C" fn s57_apply(
+    cell: &[u8],
+    update: &[u8],
+    out: &mut [u8],
+    work: &mut [u8],
+    answer: &mut [u8],
+) -> u32
     ensures { λ r. ⌜ Applied (now (cell .entry)) (now (update .entry)) (now (out .entry)) (now (work .entry)) (now (answer .entry)) (now (out .exit)) (now (answer .exit)) (now (work .exit)) r ⌝ }
 {
     let a = apply(cell, update, out, work);

@@ -4,6 +4,5 @@ pub mod FaultLaws
 pub mod TextLaws
 pub mod RuleLaws
 pub mod ClassLaws
-pub mod DsidLaws
 pub mod DspmLaws
 pub mod Promise

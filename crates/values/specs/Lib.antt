@@ -1,10 +1,8 @@
 -- The notions of `values`, in the order in which a reader should meet them.
 pub mod Fault
 pub mod Text
-pub mod Date
 pub mod Rule
 pub mod Class
-pub mod Dsid
 pub mod Dssi
 pub mod Dspm
 pub mod Vrid

@@ -9,9 +9,9 @@ use Rattle.iso8211.specs.Directory.{tagAt, rowAt, rows}
 use Rattle.iso8211.specs.Field as iso8211-field
 use Rattle.iso8211.specs.Field.{directoryAt, fieldAt}
 use Rattle.iso8211.specs.File.{framedFrom, frameOf, recordAt}
-use Rattle.iso8211.specs.Formats as iso8211-formats
-use Rattle.iso8211.specs.Formats.{digitAt, shortFrom, shortAt, isLetter, closed, sizedAt, counts, binaryAt, primitiveAt, single, repeated, joined, followed, itemAt, itemsFrom}
-use Rattle.iso8211.specs.Formats.{writtenAt}
+use Rattle.formats.specs.Formats as iso8211-formats
+use Rattle.formats.specs.Formats.{digitAt, shortFrom, shortAt, isLetter, closed, sizedAt, counts, binaryAt, primitiveAt, single, repeated, joined, followed, itemAt, itemsFrom}
+use Rattle.formats.specs.Formats.{writtenAt}
 use Rattle.iso8211.specs.Leader.{kindGood, sizeGood, leaderGood}
 use Rattle.iso8211.specs.Record.{fieldGood, inRow, bodyGood, recordGood}
 use Rattle.iso8211.specs.Same.{sameList}
@@ -21,9 +21,9 @@ use Rattle.words.specs.Order.{insert, sorted, isIn}
 use Rattle.table.specs.Table.{table, asNumber, rowOf, among, kindOf, tagOf}
 use Rattle.table.specs.Text.{bytes}
 use Rattle.values.specs.Class.{isGeo, isMeta, isCollection, classOf, isClass, objlGood}
-use Rattle.values.specs.Date.{isLeap, daysIn, isDate, dateGood}
-use Rattle.values.specs.Dsid.{dsidEnds, dsidLaid, isCode, codesAt, extensionGood, dsnmGood, edtnGood, updnDigits, updnGood, uadtGood, stedGood, predGood, headFault, namesFault}
-use Rattle.values.specs.Dsid.{issueFault, productFault, dsidOver, dsidFault}
+use Rattle.dataset.specs.Date.{isLeap, daysIn, isDate, dateGood}
+use Rattle.dataset.specs.Dsid.{dsidEnds, dsidLaid, isCode, codesAt, extensionGood, dsnmGood, edtnGood, updnDigits, updnGood, uadtGood, stedGood, predGood, headFault, namesFault}
+use Rattle.dataset.specs.Dsid.{issueFault, productFault, dsidOver, dsidFault}
 use Rattle.values.specs.Dspm.{dspmLaid, datumFault, unitsFault, factorsFault, dspmFault}
 use Rattle.values.specs.Dssi.{noneGood, dssiFault}
 use Rattle.values.specs.Fault.{faultAt, first}

@@ -99,9 +99,6 @@ enum-known-from-2 c = search needs
 enum-told-3 : tie.Need-enum-told-3 Inv-loop μ-loop Inv-rings μ-rings
 enum-told-3 c = search needs
 
-returns-2 : tie.Need-returns-2 Inv-loop μ-loop Inv-rings μ-rings
-returns-2 c = search (needs, ring-open)
-
 sub-step-of-2 : tie.Need-sub-step-of-2 Inv-loop μ-loop Inv-rings μ-rings
 sub-step-of-2 c = search (needs, next-up)
 
@@ -137,11 +134,14 @@ loop-again c =
     (entry .0 .0) (entry .0 .1 .0) (entry .0 .1 .1 .0) (entry .1) _ (stepped .step-of2 .ensures) (taken .0 .0) (taken .1) (c .if3 .left) in
     (search (needs, next-in), on, search (needs, few-still), search needs)
 
+returns-2 : tie.Need-returns-2 Inv-loop μ-loop Inv-rings μ-rings
+returns-2 c = search (needs, first-missing)
+
 returns-3 : tie.Need-returns-3 Inv-loop μ-loop Inv-rings μ-rings
-returns-3 c = search (needs, first-missing)
+returns-3 c = search (needs, ring-misused)
 
 returns-4 : tie.Need-returns-4 Inv-loop μ-loop Inv-rings μ-rings
-returns-4 c = search (needs, ring-misused)
+returns-4 c = search (needs, ring-open)
 
 returns-5 : tie.Need-returns-5 Inv-loop μ-loop Inv-rings μ-rings
 returns-5 c =
@@ -183,7 +183,6 @@ rings-closed-spec =
     next-requires-2
     enum-known-from-2
     enum-told-3
-    returns-2
     sub-step-of-2
     part-step-of-start-2
     part-step-of-end-2
@@ -192,6 +191,7 @@ rings-closed-spec =
     enum-told-4
     loop-less
     loop-again
+    returns-2
     returns-3
     returns-4
     returns-5

@@ -1,0 +1,4 @@
+-- Laws of `formats`.
+pub mod FormatsLaws
+pub mod FormatsBounds
+pub mod FormatsExamples

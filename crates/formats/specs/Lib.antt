@@ -1,0 +1,2 @@
+-- The notion of `formats`.
+pub mod Formats

@@ -1,0 +1,5 @@
+-- Laws of `rebuild`.
+pub mod SumLaws
+pub mod FrontLaws
+pub mod PuttingLaws
+pub mod RecordLaws

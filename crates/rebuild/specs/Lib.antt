@@ -1,0 +1,2 @@
+-- The notion of `rebuild`.
+pub mod Record
