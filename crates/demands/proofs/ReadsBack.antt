@@ -18,6 +18,7 @@ use Rattle.loader.specs.Admit.{heldAnswer, written, admitChecked, checkedArea, 
 use Rattle.demands.specs.Verdict.{Good}
 use Rattle.demands.specs.Cell.{recordsIn, countIn, Readable, cellChart}
 use Rattle.demands.proofs.TopologyLaws.{held-topology}
+use Rattle.demands.proofs.SoundLaws.{sound-tested}
 
 module _ (c : Chart) (good : Good c) where
   there : HeldRead c
@@ -37,7 +38,7 @@ module _ (c : Chart) (good : Good c) where
 
   held-verdict : cellVerdict (heldOf c) (recordCount c) .code ≡ 0
   unfolding cellVerdict
-  held-verdict = rw (eq-eqb (cellFault (heldOf c) (recordCount c) .code) 0 held-fine) (held-topology c (good .values) (good .limits) ∙ good .topology)
+  held-verdict = rw (eq-eqb (cellFault (heldOf c) (recordCount c) .code) 0 held-fine) (held-topology c (good .values) (good .limits) ∙ sound-tested c (good .sound))
 
   -- ---- it is readable, and means the chart
   pub held-readable : Readable (heldOf c)

@@ -8,11 +8,10 @@ use Rattle.items.specs.Identity.{nameFrom}
 use Rattle.reader.specs.Reader.{answer}
 use Rattle.reader.specs.declared.answer.Answer.{Answer}
 use Rattle.held.specs.Chart.{objectName}
-use Rattle.merge.specs.Updated.{Differs}
-use Rattle.merge.specs.Updated.Differs.{diff-none, diff-more}
 use Rattle.changes.specs.Change.{Amendment}
 use Rattle.changes.specs.Amend.{heldBy}
 use Rattle.changes.specs.Rules.{All, Done}
+use Rattle.changes.specs.Rules.All.{all-none, all-more}
 use Rattle.loader.specs.Judge.{judgeOf}
 use Rattle.loader.specs.Admit.{admitOf, admitArea}
 use Rattle.loader.specs.Apply.{applyOf, applyArea}
@@ -63,7 +62,7 @@ moved-judged w work = rw moved-held at (held-judged chartMoved (moved-whole .goo
 -- `accepted-exactly`
 pub moving-exactly : Allowed (cellChart heldSmall) moving × Areas heldSmall moving 160 2077
 moving-exactly =
-    accepted-exactly heldSmall moving 160 2077 (held-is-bytes chartSmall small-whole heldSmall small-held) moving-bytes
+    accepted-exactly heldSmall moving 160 2077 moving-bytes
     (held-is-readable chartSmall small-whole heldSmall small-held) .0 (moving-accepted 160 2077 (omega arith) (omega arith))
 
 -- `apply-refuses`: update 2 too early
@@ -89,9 +88,9 @@ moved-done = named-done chartSmall moving moving-bytes moving-allowed
 two-names : _≡_ {A = ℕ} 4294967297 4294967298 → ⊥
 two-names e = omega arith
 
-others-differ : Differs (λ (a : Amendment). objectName (a .object)) 4294967297 (fileChange moving .amendments)
+others-differ : All (λ (a : Amendment). 4294967297 ≡ objectName (a .object) → ⊥) (fileChange moving .amendments)
 unfolding judging admitting applying smallFiles recordsIn
-others-differ = diff-more two-names diff-none
+others-differ = all-more two-names all-none
 
 pub other-node : heldBy (chartMoved .objects) (nameFrom 120 1) ≡ heldBy (chartSmall .objects) (nameFrom 120 1)
 unfolding judging

@@ -45,7 +45,7 @@ shown-each = (
 kept : (c : Chart) → Whole c → (cell : List ℕ) → heldOf c ≡ cell → (o : Offer) → Bytes (o .file) → (numberOf (o .file) ≡ chartNumber c + 1 → ⊥) → offered cell o ≡ cell
 kept c whole cell is o these not =
     offered-kept cell o (λ h.
-    let a = apply-allowed cell (o .file) (o .work) (length (o .area)) (held-is-bytes c whole cell is) these h in
+    let a = apply-allowed cell (o .file) (o .work) (length (o .area)) these h in
     not (allowed-next (cellChart cell) (o .file) a ∙ ap (λ (x : Chart). chartNumber x + 1) (held-means c whole cell is)))
 
 too-early : offered heldSmall (lent deleting) ≡ heldSmall
@@ -73,7 +73,7 @@ too-late = kept chartDeleted deleted-whole heldDeleted deleted-held (lent moving
 short : (o : Offer) → o .file ≡ moving → (Areas heldSmall moving (o .work) (length (o .area)) → ⊥) → offered heldSmall o ≡ heldSmall
 short o is not =
     offered-kept heldSmall o (λ h.
-    not (accepted-exactly heldSmall moving (o .work) (length (o .area)) (held-is-bytes chartSmall small-whole heldSmall small-held) moving-bytes
+    not (accepted-exactly heldSmall moving (o .work) (length (o .area)) moving-bytes
     (held-is-readable chartSmall small-whole heldSmall small-held) .0 (rw is at h) .1))
 
 few-work : offered heldSmall (narrow moving) ≡ heldSmall

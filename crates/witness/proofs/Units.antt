@@ -90,12 +90,12 @@ small-series = next (List·Memᴰ·tail (List·Memᴰ·head refl)) moving-allowe
 
 first-areas : Areas heldSmall moving 160 (length room)
 first-areas =
-    accepted-exactly heldSmall moving 160 (length room) (held-is-bytes chartSmall small-whole heldSmall small-held) moving-bytes
+    accepted-exactly heldSmall moving 160 (length room) moving-bytes
     (held-is-readable chartSmall small-whole heldSmall small-held) .0 (moving-accepted 160 (length room) (omega arith) (omega (arith, room-length))) .1
 
 second-areas : Areas heldMoved deleting 160 (length room)
 second-areas =
-    accepted-exactly heldMoved deleting 160 (length room) (held-is-bytes chartMoved moved-whole heldMoved moved-held) deleting-bytes
+    accepted-exactly heldMoved deleting 160 (length room) deleting-bytes
     (held-is-readable chartMoved moved-whole heldMoved moved-held) .0 (deleting-accepted 160 (length room) (omega arith) (omega (arith, room-length))) .1
 
 small-enough : Enough heldSmall (lent moving ∷ lent deleting ∷ [])
