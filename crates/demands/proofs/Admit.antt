@@ -1,11 +1,11 @@
 -- Demand 2 of Admit. `admitted-exactly`: it accepts a cell exactly when the cell is readable, its chart keeps the rules of topology and the limits, and the areas
 -- suffice. `admit-writes`: it then writes the chart's held form, and Number says how long that is. `admit-again`: Admit on what it wrote writes the same. Assumes
 -- nothing.
-use Prim.Native.Nat.{ℕ, _+_, _*_, _≤_}
+use Prim.Native.Nat.{ℕ, _*_, _≤_}
 use mathlib.Core.Bool.{true, false, cond}
 use mathlib.Core.List.{List, _++_}
 use mathlib.Core.Logic.{⊎-elim}
-use mathlib.Core.Path.{_≡_, refl, sym, ap, _∙_}
+use mathlib.Core.Path.{_≡_, refl, ap, _∙_}
 use native.Mathlib.Omega.{arith}
 use lib.ListN.{length, drop}
 use lib.Dec.{eqb, ltb}
@@ -13,18 +13,16 @@ use borrow.Author.Tests.{le-ltb, eq-eqb, ne-eqb, ltb-false, eqb-true, eqb-false}
 use Rattle.octets.proofs.Cases.{true-or-false}
 use Rattle.iso8211.specs.File.{frameOf}
 use Rattle.iso8211.specs.declared.file.Framed.the-variants.{Records}
-use Rattle.reader.specs.Reader.{answer, filed, firstRefusal, frontOf, cellFault, workAnswer}
+use Rattle.reader.specs.Reader.{answer, filed, firstRefusal, frontOf, workAnswer}
 use Rattle.reader.specs.declared.answer.Answer.{Answer}
 use Rattle.reader.specs.declared.front.Front.{Front}
 use Rattle.reader.specs.declared.front.Front.the-variants.{Count, Refused}
-use Rattle.topology.specs.Topology.{topologyFault}
 use Rattle.held.specs.Chart.{Chart, chartOf}
 use Rattle.held.specs.Held.{heldOf}
-use Rattle.held.specs.Limits.{fits, Fits, recordCount}
+use Rattle.held.specs.Limits.{fits, recordCount}
 use Rattle.held.proofs.LimitsLaws.{fits-told, fits-tested}
 use Rattle.loader.specs.Judge.{cellVerdict}
 use Rattle.loader.specs.Admit.{heldAnswer, written, admitChecked, checkedArea, admitFront, areaFront, admitOf, admitArea}
-use Rattle.loader.proofs.AdmitLaws.{verdict-told, fault-told}
 use Rattle.demands.specs.Cell.{Bytes, recordsIn, countIn, cellChart}
 use Rattle.demands.specs.Accepted.{Admissible}
 use Rattle.demands.specs.Verdict.{Good}

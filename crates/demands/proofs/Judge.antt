@@ -29,7 +29,8 @@ use Rattle.demands.proofs.SoundLaws.{sound-told, sound-tested}
 verdict-parts : (s : List ℕ) (n : ℕ) → cellVerdict s n .code ≡ 0 → (cellFault s n .code ≡ 0) × (topologyFault s n .code ≡ 0)
 unfolding cellVerdict
 verdict-parts s n h =
-    ⊎-elim (λ (e : eqb (cellFault s n .code) 0 ≡ true). (eqb-true _ _ e, rw e at h)) (λ (e : eqb (cellFault s n .code) 0 ≡ false). absurd (eqb-false (cellFault s n .code) 0 e (rw e at h)))
+    ⊎-elim (λ (e : eqb (cellFault s n .code) 0 ≡ true). (eqb-true _ _ e, rw e at h))
+    (λ (e : eqb (cellFault s n .code) 0 ≡ false). absurd (eqb-false (cellFault s n .code) 0 e (rw e at h)))
     (true-or-false (eqb (cellFault s n .code) 0))
 
 verdict-whole : (s : List ℕ) (n : ℕ) → cellFault s n .code ≡ 0 → topologyFault s n .code ≡ 0 → cellVerdict s n .code ≡ 0

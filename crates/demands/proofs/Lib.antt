@@ -1,4 +1,4 @@
--- The demands' theorems, and the laws behind them: ReadsBack, Judge, Admit, Updated, Apply and Written are what the owner reads.
+-- The demands' theorems, and the laws behind them: ReadsBack, Judge, Admit, Updated, Apply, Written and Needs are what the owner reads.
 pub mod FileLaws
 pub mod TopologyLaws
 pub mod SoundLaws
@@ -11,4 +11,5 @@ pub mod Admit
 pub mod Updated
 pub mod Apply
 pub mod Written
+pub mod Needs
 pub mod Whole

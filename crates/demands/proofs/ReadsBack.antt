@@ -1,6 +1,6 @@
 -- "A written re-issue reads back to the same records": `held-back`. What is written for a good chart is readable and means that chart, Judge gives it 0, and
 -- Admit writes the same bytes for it. Assumes nothing.
-use Prim.Native.Nat.{ℕ, _+_, _*_, _≤_}
+use Prim.Native.Nat.{ℕ, _*_, _≤_}
 use mathlib.Core.List.{List, _++_}
 use mathlib.Core.Path.{_≡_, ap, _∙_}
 use lib.ListN.{length, drop}

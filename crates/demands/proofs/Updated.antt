@@ -9,13 +9,12 @@ use Rattle.held.specs.Good.{GoodChart}
 use Rattle.merge.specs.Update.{unnamed}
 use Rattle.merge.specs.Updated.{Differs}
 use Rattle.merge.specs.Updated.Differs.{diff-none, diff-more}
-use Rattle.changes.specs.Change.{Amendment, Change}
+use Rattle.changes.specs.Change.{Amendment}
 use Rattle.changes.specs.Follow.{chartName, followCode}
-use Rattle.changes.specs.Amend.{heldBy, changeFault}
+use Rattle.changes.specs.Amend.{heldBy}
 use Rattle.changes.specs.Updated.{byAmendment}
 use Rattle.changes.specs.Rules.{All, Done}
 use Rattle.changes.specs.Rules.All.{all-none, all-more}
-use Rattle.changes.specs.Good.{GoodChange}
 use Rattle.changes.proofs.RulesLaws.{acceptable-tested}
 use Rattle.changes.proofs.GoodLaws as good
 use Rattle.changes.proofs.FollowLaws as follow

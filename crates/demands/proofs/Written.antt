@@ -3,7 +3,7 @@
 -- record says. Assumes nothing.
 use Prim.Native.Nat.{ℕ}
 use mathlib.Core.List.{List}
-use mathlib.Core.Path.{_≡_, sym, ap, ap₂, _∙_}
+use mathlib.Core.Path.{_≡_, ap, ap₂, _∙_}
 use lib.ListN.{length, take, drop}
 use lib.Seq.{take-append-seam}
 use Rattle.reader.specs.declared.answer.Answer.{Answer}
@@ -14,8 +14,8 @@ use Rattle.changes.specs.Change.{Amendment}
 use Rattle.changes.specs.Amend.{heldBy}
 use Rattle.changes.specs.Updated.{byAmendment}
 use Rattle.changes.specs.Rules.{All, Done}
-use Rattle.loader.specs.Admit.{admitOf, admitArea}
-use Rattle.loader.specs.Apply.{applyOf, applyArea}
+use Rattle.loader.specs.Admit.{admitOf}
+use Rattle.loader.specs.Apply.{applyOf}
 use Rattle.demands.specs.Cell.{Bytes, Readable, cellChart}
 use Rattle.demands.specs.Update.{fileChange, updatedBy, Allowed}
 use Rattle.demands.specs.Verdict.{Good}
