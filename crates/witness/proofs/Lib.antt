@@ -5,6 +5,7 @@ pub mod HeldLaws
 pub mod Judged
 pub mod Admitted
 pub mod Applied
+pub mod Edited
 pub mod Wrong
 pub mod Demand2
 pub mod Offered
