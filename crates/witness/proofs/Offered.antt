@@ -25,7 +25,7 @@ use Rattle.witness.proofs.Computing.{judging, admitting, applying, smal
 use Rattle.witness.proofs.Admitted.{room-length, small-held, small-accepted}
 use Rattle.witness.proofs.Applied.{small-means, moved-means, deleted-means, moving-bytes, deleting-bytes, small-whole, moved-whole, deleted-whole, moved-held}
 use Rattle.witness.proofs.Applied.{deleted-held, small-records, moving-count, moved-records, moving-accepted, deleting-accepted, held-lengths}
-use Rattle.witness.proofs.HeldLaws.{held-is-bytes, held-is-readable, held-means, held-records}
+use Rattle.witness.proofs.HeldLaws.{held-is-readable, held-means, held-records}
 
 -- ---- numbers
 pub numbers : (chartNumber chartSmall ≡ 0) × (chartNumber chartMoved ≡ 1) × (chartNumber chartDeleted ≡ 2) × (numberOf moving ≡ 1) × (numberOf deleting ≡ 2)
