@@ -7,19 +7,14 @@ use mathlib.Core.Path.{_≡_, ap, ap₂, _∙_}
 use lib.ListN.{length, take, drop}
 use lib.Seq.{take-append-seam}
 use Rattle.reader.specs.declared.answer.Answer.{Answer}
-use Rattle.held.specs.Chart.{Chart, objectName}
+use Rattle.held.specs.Chart.{Chart}
 use Rattle.held.specs.Held.{heldOf}
-use Rattle.merge.specs.Update.{unnamed}
-use Rattle.changes.specs.Change.{Amendment}
-use Rattle.changes.specs.Amend.{heldBy}
-use Rattle.changes.specs.Updated.{byAmendment}
-use Rattle.changes.specs.Rules.{All, Done}
 use Rattle.loader.specs.Admit.{admitOf}
 use Rattle.loader.specs.Apply.{applyOf}
-use Rattle.demands.specs.Cell.{Bytes, Readable, cellChart}
-use Rattle.demands.specs.Update.{fileChange, updatedBy, Allowed}
+use Rattle.demands.specs.Cell.{Bytes, cellChart}
+use Rattle.demands.specs.Update.{updatedBy, Allowed}
 use Rattle.demands.specs.Verdict.{Good}
-use Rattle.demands.specs.Written.{admittedBytes, appliedBytes}
+use Rattle.demands.specs.Written.{admittedBytes, appliedBytes, ReadsAs, Applied}
 use Rattle.demands.proofs.ReadsBack.{held-readable, held-back}
 use Rattle.demands.proofs.Admit.{admit-writes, admitted-good}
 use Rattle.demands.proofs.Updated.{unnamed-kept, named-done, other-kept}
@@ -40,10 +35,6 @@ applied-held cell file w out h =
     ap₂ take (ap (λ (x : Answer). x .number) (t .answered)) (t .area) ∙ take-append-seam held (drop (length held) out)
 
 -- ---- `admit-written`: "A written re-issue reads back to the same records"
-pub record ReadsAs (bytes : List ℕ) (c : Chart) : Type 0 where
-  pub readable : Readable bytes
-  pub chart : cellChart bytes ≡ c
-
 reads-as : (s : List ℕ) (c : Chart) → Good c → s ≡ heldOf c → ReadsAs s c
 reads-as s c good is = rw is (record { readable = held-readable c good; chart = held-back c good })
 
@@ -52,15 +43,6 @@ pub admit-written : (cell : List ℕ) (w : ℕ) (out : List ℕ) → Bytes cell 
 admit-written cell w out bytes h = reads-as (admittedBytes cell w out) (cellChart cell) (admitted-good cell w (length out) bytes h) (admitted-held cell w out h)
 
 -- ---- `apply-written`
-pub record Applied (cell file written : List ℕ) : Type 0 where
-  pub reads : ReadsAs written (updatedBy (cellChart cell) file)
-  -- "records it doesn't name keep all their values but the running number": the objects that no record of the file names, in their order, and each by its name
-  pub unnamed-stay : unnamed byAmendment (fileChange file .amendments) (cellChart written .objects) ≡ unnamed byAmendment (fileChange file .amendments) (cellChart cell .objects)
-  pub others-stay : (n : ℕ) → All (λ (a : Amendment). n ≡ objectName (a .object) → ⊥) (fileChange file .amendments)
-      → heldBy (cellChart written .objects) n ≡ heldBy (cellChart cell .objects) n
-  -- each record of the file is done
-  pub named : All (Done (cellChart cell .objects) (cellChart written .objects)) (fileChange file .amendments)
-
 module _ (cell file : List ℕ) (w : ℕ) (out : List ℕ) (bytes : Bytes cell) (these : Bytes file) (h : applyOf cell file w (length out) .code ≡ 0) where
   allowed : Allowed (cellChart cell) file
   allowed = accepted-exactly cell file w (length out) these (accepted-readable cell file w (length out) h) .0 h .0
