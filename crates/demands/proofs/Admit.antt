@@ -1,10 +1,11 @@
--- Demand 2 of Admit. `admitted-exactly`: it accepts a cell exactly when the cell is readable, its chart good and the areas suffice. `admit-writes`: it then writes
--- the chart's held form, and Number says how long that is. `admit-again`: Admit on what it wrote writes the same. Assumes nothing.
-use Prim.Native.Nat.{ℕ, _+_, _*_, _≤_}
+-- Demand 2 of Admit. `admitted-exactly`: it accepts a cell exactly when the cell is readable, its chart keeps the rules of topology and the limits, and the areas
+-- suffice. `admit-writes`: it then writes the chart's held form, and Number says how long that is. `admit-again`: Admit on what it wrote writes the same. Assumes
+-- nothing.
+use Prim.Native.Nat.{ℕ, _*_, _≤_}
 use mathlib.Core.Bool.{true, false, cond}
 use mathlib.Core.List.{List, _++_}
 use mathlib.Core.Logic.{⊎-elim}
-use mathlib.Core.Path.{_≡_, refl, sym, ap, _∙_}
+use mathlib.Core.Path.{_≡_, refl, ap, _∙_}
 use native.Mathlib.Omega.{arith}
 use lib.ListN.{length, drop}
 use lib.Dec.{eqb, ltb}
@@ -12,23 +13,21 @@ use borrow.Author.Tests.{le-ltb, eq-eqb, ne-eqb, ltb-false, eqb-true, eqb-false}
 use Rattle.octets.proofs.Cases.{true-or-false}
 use Rattle.iso8211.specs.File.{frameOf}
 use Rattle.iso8211.specs.declared.file.Framed.the-variants.{Records}
-use Rattle.reader.specs.Reader.{answer, filed, firstRefusal, frontOf, cellFault, workAnswer}
+use Rattle.reader.specs.Reader.{answer, filed, firstRefusal, frontOf, workAnswer}
 use Rattle.reader.specs.declared.answer.Answer.{Answer}
 use Rattle.reader.specs.declared.front.Front.{Front}
 use Rattle.reader.specs.declared.front.Front.the-variants.{Count, Refused}
-use Rattle.topology.specs.Topology.{topologyFault}
 use Rattle.held.specs.Chart.{Chart, chartOf}
 use Rattle.held.specs.Held.{heldOf}
-use Rattle.held.specs.Limits.{fits, Fits, recordCount}
+use Rattle.held.specs.Limits.{fits, recordCount}
 use Rattle.held.proofs.LimitsLaws.{fits-told, fits-tested}
 use Rattle.loader.specs.Judge.{cellVerdict}
 use Rattle.loader.specs.Admit.{heldAnswer, written, admitChecked, checkedArea, admitFront, areaFront, admitOf, admitArea}
-use Rattle.loader.proofs.AdmitLaws.{verdict-told, fault-told}
-use Rattle.verdict.specs.Verdict.{chartTopology}
+use Rattle.demands.specs.Cell.{Bytes, recordsIn, countIn, cellChart}
+use Rattle.demands.specs.Accepted.{Admissible}
 use Rattle.demands.specs.Verdict.{Good}
-use Rattle.demands.specs.Cell.{Bytes, recordsIn, countIn, Readable, cellChart, Room}
 use Rattle.demands.proofs.FileLaws.{front-framed, front-refused, cell-good}
-use Rattle.demands.proofs.TopologyLaws.{cell-topology}
+use Rattle.demands.proofs.Judge.{verdict-sound, sound-verdict}
 use Rattle.demands.proofs.ReadsBack.{held-admitted, held-again}
 
 -- ---- out of an answer 0
@@ -78,17 +77,6 @@ accepted s w o h =
     let q = front-framed 1 s (countIn s) (p .0) in
     record { opened = p .0; framed = q .0; short = q .1; taken = p .1 }
 
--- ---- the verdict, in two parts
-verdict-parts : (s : List ℕ) (n : ℕ) → cellVerdict s n .code ≡ 0 → (cellFault s n .code ≡ 0) × (topologyFault s n .code ≡ 0)
-unfolding cellVerdict
-verdict-parts s n h =
-    ⊎-elim (λ (e : eqb (cellFault s n .code) 0 ≡ true). (eqb-true _ _ e, rw e at h)) (λ (e : eqb (cellFault s n .code) 0 ≡ false). absurd (eqb-false (cellFault s n .code) 0 e (rw e at h)))
-    (true-or-false (eqb (cellFault s n .code) 0))
-
-verdict-whole : (s : List ℕ) (n : ℕ) → cellFault s n .code ≡ 0 → topologyFault s n .code ≡ 0 → cellVerdict s n .code ≡ 0
-unfolding cellVerdict
-verdict-whole s n a b = rw (eq-eqb (cellFault s n .code) 0 a) b
-
 -- ---- into an answer 0
 admit-opened : (s : List ℕ) (w o n : ℕ) → frontOf 1 s ≡ Count n → admitOf s w o ≡ admitChecked s w o n
 unfolding admitOf admitFront
@@ -114,46 +102,27 @@ area-kept s w out (Count n) e ne = rw e (kept (rw e at ne))
 area-kept s w out (Refused a) e ne = rw e
 
 -- ---- `admitted-exactly`
-pub record Admissible (s : List ℕ) (w o : ℕ) : Type 0 where
-  pub readable : Readable s
-  pub topology : chartTopology (cellChart s) .code ≡ 0
-  pub limits : Fits (cellChart s)
-  pub areas : Room s w o
-
 admitted-only : (s : List ℕ) (w o : ℕ) → Bytes s → admitOf s w o .code ≡ 0 → Admissible s w o
 admitted-only s w o bytes h =
     let a = accepted s w o h in
     let t = a .taken in
-    let told = verdict-told s (countIn s) (t .verdict) in
-    let p = verdict-parts s (countIn s) (t .verdict) in
+    let p = verdict-sound s (countIn s) bytes (a .opened) (t .verdict) in
     record {
       readable = record { opened = a .opened; fine = p .0 };
-      topology = sym (cell-topology s (countIn s) (a .framed) (a .short) (bytes .small) (told .read) (told .once)) ∙ p .1;
+      sound = p .1;
       limits = fits-told (cellChart s) (t .fit);
       areas = record { work = t .room; output = t .long };
     }
 
 admitted-all : (s : List ℕ) (w o : ℕ) → Bytes s → Admissible s w o → admitOf s w o .code ≡ 0
-admitted-all s w o bytes a = ap (λ (x : Answer). x .code) (opened-answer (a .readable .opened) ∙ checked-answer)
-  where
-    n : ℕ
-    n = countIn s
+admitted-all s w o bytes a =
+    let n = countIn s in
+    let r = a .readable in
+    let verdict = sound-verdict s n bytes (r .opened) (r .fine) (a .sound) in
+    ap (λ (x : Answer). x .code)
+    (admit-opened s w o n (r .opened) ∙ checked-done s w o n (a .areas .work) verdict (fits-tested (cellChart s) (a .limits)) (a .areas .output))
 
-    opened-answer : frontOf 1 s ≡ Count n → admitOf s w o ≡ admitChecked s w o n
-    opened-answer e = admit-opened s w o n e
-
-    framed : (frameOf s ≡ Records n) × (length s ≤ 5242880)
-    framed = front-framed 1 s n (a .readable .opened)
-
-    verdict : cellVerdict s n .code ≡ 0
-    verdict =
-        let t = fault-told s n (a .readable .fine) in
-        verdict-whole s n (a .readable .fine) (cell-topology s n (framed .0) (framed .1) (bytes .small) (t .0) (t .1) ∙ a .topology)
-
-    checked-answer : admitChecked s w o n ≡ answer 0 0 0 (length (heldOf (chartOf s n))) 0
-    checked-answer = checked-done s w o n (a .areas .work) verdict (fits-tested (chartOf s n) (a .limits)) (a .areas .output)
-
--- "On a readable cell .. accepted exactly when its rules hold and the areas suffice", of Admit
+-- demand 2, of Admit: a cell is accepted exactly when its rules hold and the areas suffice
 pub admitted-exactly : (s : List ℕ) (w o : ℕ) → Bytes s → (admitOf s w o .code ≡ 0 → Admissible s w o) × (Admissible s w o → admitOf s w o .code ≡ 0)
 admitted-exactly s w o bytes = (admitted-only s w o bytes, admitted-all s w o bytes)
 
@@ -181,7 +150,7 @@ admit-refuses s w out ne = area-kept s w out (frontOf 1 s) refl ne
 pub admitted-good : (s : List ℕ) (w o : ℕ) → Bytes s → admitOf s w o .code ≡ 0 → Good (cellChart s)
 admitted-good s w o bytes h =
     let m = admitted-only s w o bytes h in
-    record { values = cell-good s bytes (m .readable); topology = m .topology; limits = m .limits }
+    record { values = cell-good s bytes (m .readable); sound = m .sound; limits = m .limits }
 
 pub admit-again : (s : List ℕ) (w o : ℕ) → Bytes s → admitOf s w o .code ≡ 0 → (v : ℕ) (out : List ℕ) → 16 * recordCount (cellChart s) ≤ v
     → length (heldOf (cellChart s)) ≤ length out

@@ -185,11 +185,11 @@ accepted-all cell file w o r p =
     ∙ checked-change cell n file m w o (p .1 .work) (r .fine) (a .reads .fine)
     ∙ change-done cell n file m o (acceptable-tested (a .rules)) (sound-tested made (a .result)) (fits-tested made (a .limits)) (p .1 .output))
 
--- "On a readable cell .. accepted exactly when its rules hold and the areas suffice", of Apply
-pub accepted-exactly : (cell file : List ℕ) (w o : ℕ) → Bytes cell → Bytes file → Readable cell
+-- "On a readable cell an update is accepted exactly when its rules and its result's hold and the areas suffice"
+pub accepted-exactly : (cell file : List ℕ) (w o : ℕ) → Bytes file → Readable cell
     → (applyOf cell file w o .code ≡ 0 → Allowed (cellChart cell) file × Areas cell file w o)
     × (Allowed (cellChart cell) file × Areas cell file w o → applyOf cell file w o .code ≡ 0)
-accepted-exactly cell file w o bytes these r = (accepted-only cell file w o these, accepted-all cell file w o r)
+accepted-exactly cell file w o these r = (accepted-only cell file w o these, accepted-all cell file w o r)
 
 -- ---- `apply-writes`
 pub record Applies (cell file : List ℕ) (w : ℕ) (out : List ℕ) : Type 0 where

@@ -1,4 +1,4 @@
--- The demands' theorems, and the laws behind them: ReadsBack, Admit, Updated and Apply are what the owner reads.
+-- The demands' theorems, and the laws behind them: ReadsBack, Judge, Admit, Updated, Apply, Written and Needs are what the owner reads.
 pub mod FileLaws
 pub mod TopologyLaws
 pub mod SoundLaws
@@ -6,7 +6,10 @@ pub mod AllLaws
 pub mod HeldBytes
 pub mod ChartBytes
 pub mod ReadsBack
+pub mod Judge
 pub mod Admit
 pub mod Updated
 pub mod Apply
+pub mod Written
+pub mod Needs
 pub mod Whole

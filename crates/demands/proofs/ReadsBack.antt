@@ -1,6 +1,6 @@
 -- "A written re-issue reads back to the same records": `held-back`. What is written for a good chart is readable and means that chart, Judge gives it 0, and
 -- Admit writes the same bytes for it. Assumes nothing.
-use Prim.Native.Nat.{ℕ, _+_, _*_, _≤_}
+use Prim.Native.Nat.{ℕ, _*_, _≤_}
 use mathlib.Core.List.{List, _++_}
 use mathlib.Core.Path.{_≡_, ap, _∙_}
 use lib.ListN.{length, drop}
@@ -18,6 +18,7 @@ use Rattle.loader.specs.Admit.{heldAnswer, written, admitChecked, checkedArea, 
 use Rattle.demands.specs.Verdict.{Good}
 use Rattle.demands.specs.Cell.{recordsIn, countIn, Readable, cellChart}
 use Rattle.demands.proofs.TopologyLaws.{held-topology}
+use Rattle.demands.proofs.SoundLaws.{sound-tested}
 
 module _ (c : Chart) (good : Good c) where
   there : HeldRead c
@@ -37,7 +38,7 @@ module _ (c : Chart) (good : Good c) where
 
   held-verdict : cellVerdict (heldOf c) (recordCount c) .code ≡ 0
   unfolding cellVerdict
-  held-verdict = rw (eq-eqb (cellFault (heldOf c) (recordCount c) .code) 0 held-fine) (held-topology c (good .values) (good .limits) ∙ good .topology)
+  held-verdict = rw (eq-eqb (cellFault (heldOf c) (recordCount c) .code) 0 held-fine) (held-topology c (good .values) (good .limits) ∙ sound-tested c (good .sound))
 
   -- ---- it is readable, and means the chart
   pub held-readable : Readable (heldOf c)

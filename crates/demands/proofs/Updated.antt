@@ -8,12 +8,13 @@ use Rattle.held.specs.Chart.{Chart, objectName}
 use Rattle.held.specs.Good.{GoodChart}
 use Rattle.merge.specs.Update.{unnamed}
 use Rattle.merge.specs.Updated.{Differs}
-use Rattle.changes.specs.Change.{Amendment, Change}
+use Rattle.merge.specs.Updated.Differs.{diff-none, diff-more}
+use Rattle.changes.specs.Change.{Amendment}
 use Rattle.changes.specs.Follow.{chartName, followCode}
-use Rattle.changes.specs.Amend.{heldBy, changeFault}
+use Rattle.changes.specs.Amend.{heldBy}
 use Rattle.changes.specs.Updated.{byAmendment}
 use Rattle.changes.specs.Rules.{All, Done}
-use Rattle.changes.specs.Good.{GoodChange}
+use Rattle.changes.specs.Rules.All.{all-none, all-more}
 use Rattle.changes.proofs.RulesLaws.{acceptable-tested}
 use Rattle.changes.proofs.GoodLaws as good
 use Rattle.changes.proofs.FollowLaws as follow
@@ -23,14 +24,13 @@ use Rattle.demands.specs.Verdict.{Good}
 use Rattle.demands.specs.Cell.{Bytes}
 use Rattle.demands.specs.Update.{fileChange, updatedBy, Allowed}
 use Rattle.demands.proofs.FileLaws.{change-good}
-use Rattle.demands.proofs.SoundLaws.{sound-tested}
 
 -- ---- `updated-good`
 pub updated-good : (c : Chart) (file : List ℕ) → Bytes file → GoodChart c → Allowed c file → Good (updatedBy c file)
 updated-good c file bytes g a =
     let v = change-good file bytes (a .reads) in
     let e = acceptable-tested (a .rules) in
-    record { values = good.updated-good g v e; topology = sound-tested (updatedBy c file) (a .result); limits = a .limits }
+    record { values = good.updated-good g v e; sound = a .result; limits = a .limits }
 
 -- ---- `updated-once`
 pub record Once (c : Chart) (file : List ℕ) : Type 0 where
@@ -58,6 +58,10 @@ pub unnamed-kept : (c : Chart) (file : List ℕ)
 unnamed-kept c file = kept.unnamed-kept c (fileChange file)
 
 -- what is held under a name that no record of the file has
-pub other-kept : (c : Chart) (file : List ℕ) (n : ℕ) → Differs (λ (a : Amendment). objectName (a .object)) n (fileChange file .amendments)
+all-differ : (n : ℕ) {us : List Amendment} → All (λ (a : Amendment). n ≡ objectName (a .object) → ⊥) us → Differs (λ (a : Amendment). objectName (a .object)) n us
+all-differ n all-none = diff-none
+all-differ n (all-more h rest) = diff-more h (all-differ n rest)
+
+pub other-kept : (c : Chart) (file : List ℕ) (n : ℕ) → All (λ (a : Amendment). n ≡ objectName (a .object) → ⊥) (fileChange file .amendments)
     → heldBy (updatedBy c file .objects) n ≡ heldBy (c .objects) n
-other-kept c file n d = kept.other-kept c (fileChange file) n d
+other-kept c file n others = kept.other-kept c (fileChange file) n (all-differ n others)

@@ -26,7 +26,7 @@ whole-admitted cell w o bytes = (
   λ h.
       let a = admitted-exactly cell w o bytes .0 h in
       (a .readable, record { good = admitted-good cell w o bytes h; bytes = cell-bytes cell bytes }, a .areas),
-  λ p. admitted-exactly cell w o bytes .1 (record { readable = p .0; topology = p .1 .good .topology; limits = p .1 .good .limits; areas = p .2 }),
+  λ p. admitted-exactly cell w o bytes .1 (record { readable = p .0; sound = p .1 .good .sound; limits = p .1 .good .limits; areas = p .2 }),
 )
 
 pub whole-updated : (c : Chart) (file : List ℕ) → Bytes file → Whole c → Allowed c file → Whole (updatedBy c file)

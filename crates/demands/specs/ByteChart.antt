@@ -1,4 +1,5 @@
--- Charts and changes of which all that was text or entry in a file is bytes: demand 3 speaks of what is written as of a file. Assumes nothing.
+-- Charts and changes of which all that was text or entry in a file is bytes: proofs pass it on
+-- to say that what is written is a file again. The statements about the calls don't speak of it, so nothing here need be believed. Assumes nothing.
 use Prim.Native.Nat.{ℕ, _<_}
 use mathlib.Core.List.{List}
 use Rattle.objects.specs.Object.{Object}

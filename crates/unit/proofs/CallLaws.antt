@@ -1,39 +1,31 @@
 -- Demand 2 in the form in which a unit takes it: what a call wrote, why Apply could, and that an offer replaces or keeps. Assumes nothing.
 use Prim.Native.Nat.{ℕ}
 use mathlib.Core.List.{List}
-use mathlib.Core.Path.{_≡_, ap, ap₂, _∙_}
-use lib.ListN.{length, take, drop}
-use lib.Seq.{take-append-seam}
+use mathlib.Core.Path.{_≡_}
+use lib.ListN.{length}
 use borrow.Author.Tests.{eq-eqb, ne-eqb}
-use Rattle.reader.specs.declared.answer.Answer.{Answer}
 use Rattle.held.specs.Held.{heldOf}
 use Rattle.loader.specs.Admit.{admitOf}
 use Rattle.loader.specs.Apply.{applyOf}
 use Rattle.demands.specs.Cell.{Bytes, cellChart}
 use Rattle.demands.specs.Update.{updatedBy, Allowed}
-use Rattle.demands.proofs.Admit.{admit-writes}
-use Rattle.demands.proofs.Apply.{accepted-readable, accepted-exactly, apply-writes}
+use Rattle.demands.proofs.Apply.{accepted-readable, accepted-exactly}
+use Rattle.demands.proofs.Written.{admitted-held, applied-held}
 use Rattle.unit.specs.Unit.{admitWrote, applyWrote, Offer, offered}
 
 -- ---- as many bytes of the area as Number says are the held form, and not the bytes behind it
 pub admit-wrote : (cell : List ℕ) (w : ℕ) (area : List ℕ) → admitOf cell w (length area) .code ≡ 0 → admitWrote cell w area ≡ heldOf (cellChart cell)
 unfolding admitWrote
-admit-wrote cell w area h =
-    let t = admit-writes cell w area h in
-    let held = heldOf (cellChart cell) in
-    ap₂ take (ap (λ (x : Answer). x .number) (t .answered)) (t .area) ∙ take-append-seam held (drop (length held) area)
+admit-wrote cell w area h = admitted-held cell w area h
 
 pub apply-wrote : (cell file : List ℕ) (w : ℕ) (area : List ℕ) → applyOf cell file w (length area) .code ≡ 0
     → applyWrote cell file w area ≡ heldOf (updatedBy (cellChart cell) file)
 unfolding applyWrote
-apply-wrote cell file w area h =
-    let t = apply-writes cell file w area h in
-    let held = heldOf (updatedBy (cellChart cell) file) in
-    ap₂ take (ap (λ (x : Answer). x .number) (t .answered)) (t .area) ∙ take-append-seam held (drop (length held) area)
+apply-wrote cell file w area h = applied-held cell file w area h
 
 -- ---- what Apply takes is allowed
-pub apply-allowed : (cell file : List ℕ) (w o : ℕ) → Bytes cell → Bytes file → applyOf cell file w o .code ≡ 0 → Allowed (cellChart cell) file
-apply-allowed cell file w o bytes these h = accepted-exactly cell file w o bytes these (accepted-readable cell file w o h) .0 h .0
+pub apply-allowed : (cell file : List ℕ) (w o : ℕ) → Bytes file → applyOf cell file w o .code ≡ 0 → Allowed (cellChart cell) file
+apply-allowed cell file w o these h = accepted-exactly cell file w o these (accepted-readable cell file w o h) .0 h .0
 
 -- ---- an offer replaces or keeps
 pub offered-done : (cell : List ℕ) (o : Offer) → applyOf cell (o .file) (o .work) (length (o .area)) .code ≡ 0

@@ -33,8 +33,9 @@ module _ {Offered : List ℕ → Type 0} {library : ℕ → List ℕ} {base : Ch
 
   pub reissue-is : {n : ℕ} {cell : List ℕ} → Reissue Offered base n cell → cell ≡ heldOf (reissueAt library base (n - chartNumber base))
   reissue-is {n} r =
-      let k : length (r .updates) ≡ n - chartNumber base = omega (arith, r .last) in
-      r .bytes ∙ ap heldOf (series-library refl refl (r .series)) ∙ ap (λ (m : ℕ). heldOf (reissueAt library base m)) k
+      let m = r .made in
+      let k : length (m .updates) ≡ n - chartNumber base = omega (arith, m .last) in
+      m .bytes ∙ ap heldOf (series-library refl refl (m .series)) ∙ ap (λ (x : ℕ). heldOf (reissueAt library base x)) k
 
 -- ---- one equation: the unit's bytes by its number
 pub unit-is : {Offered : List ℕ → Type 0} {library : ℕ → List ℕ} {base cell : List ℕ} → Bytes base → BytesEach Offered

@@ -52,7 +52,7 @@ unit-after cell [] all u = u
 unit-after cell (o ∷ os) all u = unit-after (offered cell o) os (λ file m. all file (List·Memᴰ·tail m)) (given o (all (o .file) (List·Memᴰ·head refl)) u)
 
 module _ (base : List ℕ) (b : Bytes base) (w : ℕ) (area : List ℕ) (accepted : admitOf base w (length area) .code ≡ 0) where
-  -- ---- "After each": `os` are the offers until now, `later` those to come
+  -- ---- after each offer: `os` are the offers until now, `later` those to come
   pub unit-shows-each : (os later : List Offer) → BytesEach (In (os ++ later)) → OneEach (In (os ++ later)) (cellChart base)
       → Reissue (In (os ++ later)) (cellChart base) (shown (after (admitWrote base w area) os)) (after (admitWrote base w area) os)
   unit-shows-each os later octets one = unit-shows b octets one (unit-after (admitWrote base w area) os (in-left os later) (begun w area accepted))

@@ -58,7 +58,7 @@ module _ {Offered : List ℕ → Type 0} (octets : BytesEach Offered) where
 
     -- ---- an offer
     pub stands-allowed : (o : Offer) → Bytes (o .file) → applyOf cell (o .file) (o .work) (length (o .area)) .code ≡ 0 → Allowed (cellChart cell) (o .file)
-    stands-allowed o these h = apply-allowed cell (o .file) (o .work) (length (o .area)) stands-bytes these h
+    stands-allowed o these h = apply-allowed cell (o .file) (o .work) (length (o .area)) these h
 
     stands-more : (o : Offer) → Offered (o .file) → applyOf cell (o .file) (o .work) (length (o .area)) .code ≡ 0
         → Stands Offered base (heldOf (updatedBy (cellChart cell) (o .file)))

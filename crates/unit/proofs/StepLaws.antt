@@ -63,7 +63,7 @@ module _ {Offered : List ℕ → Type 0} {base cell : List ℕ} (b : Bytes base)
   pub unit-takes : Allowed (cellChart cell) (o .file) → Areas cell (o .file) (o .work) (length (o .area))
       → (offered cell o ≡ heldOf (updatedBy (cellChart cell) (o .file))) × (shown (offered cell o) ≡ shown cell + 1)
   unit-takes a enough =
-      let h = accepted-exactly cell (o .file) (o .work) (length (o .area)) (stands-bytes octets st) these (stands-readable octets st) .1 (a, enough) in
+      let h = accepted-exactly cell (o .file) (o .work) (length (o .area)) these (stands-readable octets st) .1 (a, enough) in
       let s = unit-steps h in
       (offered-done cell o h, s .1 ∙ s .0)
 
@@ -75,7 +75,7 @@ module _ {Offered : List ℕ → Type 0} {base cell : List ℕ} (b : Bytes base)
       (eq-or-ne (applyOf cell (o .file) (o .work) (length (o .area)) .code) 0)
 
 module _ {Offered : List ℕ → Type 0} {base cell : List ℕ} (b : Bytes base) (octets : BytesEach Offered) (u : UnitOf Offered base cell) where
-  -- "its name and edition" are the base's, whatever was offered
+  -- name and edition are the base's, whatever was offered
   pub unit-named : (chartName (cellChart cell .header .dsid) ≡ chartName (cellChart base .header .dsid))
       × (cellChart cell .header .dsid .edition ≡ cellChart base .header .dsid .edition)
   unit-named =

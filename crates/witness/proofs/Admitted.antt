@@ -10,7 +10,8 @@ use Rattle.held.specs.Held.{heldOf}
 use Rattle.loader.specs.Admit.{admitOf, admitArea}
 use Rattle.loader.specs.Answer.{answerArea}
 use Rattle.demands.specs.Cell.{Bytes, recordsIn, countIn, cellChart}
-use Rattle.demands.proofs.Admit.{Admissible, admitted-exactly, admit-writes}
+use Rattle.demands.specs.Accepted.{Admissible}
+use Rattle.demands.proofs.Admit.{admitted-exactly, admit-writes}
 use Rattle.witness.specs.SmallCell.{small}
 use Rattle.witness.specs.SmallUpdates.{heldSmall}
 use Rattle.witness.specs.SmallOffers.{room}
@@ -58,7 +59,7 @@ pub small-accepted : (w o : ℕ) → 112 ≤ w → 2077 ≤ o → admitOf small 
 small-accepted w o work room =
     admitted-exactly small w o small-bytes .1 (record {
       readable = small-admissible .readable;
-      topology = small-admissible .topology;
+      sound = small-admissible .sound;
       limits = small-admissible .limits;
       areas = record { work = omega (arith, small-count); output = omega (arith, length-here) };
     })

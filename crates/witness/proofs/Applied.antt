@@ -93,7 +93,7 @@ pub moves-code : applyOf small moving 160 2077 .code ≡ 0
 moves-code = ap (λ (a : Answer). a .code) moves
 
 pub moving-allowed : Allowed chartSmall moving
-moving-allowed = accepted-exactly small moving 160 2077 small-bytes moving-bytes (accepted-readable small moving 160 2077 moves-code) .0 moves-code .0
+moving-allowed = accepted-exactly small moving 160 2077 moving-bytes (accepted-readable small moving 160 2077 moves-code) .0 moves-code .0
 
 pub moved-whole : Whole chartMoved
 moved-whole = next-whole chartSmall small-whole heldSmall small-held moving moving-bytes moving-allowed heldMoved moved-held
@@ -105,7 +105,7 @@ pub deleting-allowed : Allowed chartMoved deleting
 deleting-allowed =
     let h : applyOf heldMoved deleting 160 1986 .code ≡ 0 = ap (λ (a : Answer). a .code) deletes in
     rw (held-means chartMoved moved-whole heldMoved moved-held) at
-    (accepted-exactly heldMoved deleting 160 1986 moved-bytes deleting-bytes (accepted-readable heldMoved deleting 160 1986 h) .0 h .0)
+    (accepted-exactly heldMoved deleting 160 1986 deleting-bytes (accepted-readable heldMoved deleting 160 1986 h) .0 h .0)
 
 pub deleted-whole : Whole chartDeleted
 deleted-whole = next-whole chartMoved moved-whole heldMoved moved-held deleting deleting-bytes deleting-allowed heldDeleted deleted-held

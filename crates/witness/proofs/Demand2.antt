@@ -8,26 +8,31 @@ use Rattle.items.specs.Identity.{nameFrom}
 use Rattle.reader.specs.Reader.{answer}
 use Rattle.reader.specs.declared.answer.Answer.{Answer}
 use Rattle.held.specs.Chart.{objectName}
-use Rattle.merge.specs.Updated.{Differs}
-use Rattle.merge.specs.Updated.Differs.{diff-none, diff-more}
 use Rattle.changes.specs.Change.{Amendment}
 use Rattle.changes.specs.Amend.{heldBy}
 use Rattle.changes.specs.Rules.{All, Done}
+use Rattle.changes.specs.Rules.All.{all-none, all-more}
 use Rattle.loader.specs.Judge.{judgeOf}
 use Rattle.loader.specs.Admit.{admitOf, admitArea}
 use Rattle.loader.specs.Apply.{applyOf, applyArea}
 use Rattle.demands.specs.Cell.{Readable, recordsIn, cellChart}
 use Rattle.demands.specs.Update.{fileChange, Allowed, Areas}
+use Rattle.demands.specs.Accepted.{Judgeable}
+use Rattle.demands.specs.Written.{admittedBytes, appliedBytes, ReadsAs, Applied}
 use Rattle.demands.specs.Verdict.{Good}
 use Rattle.demands.proofs.ReadsBack.{held-readable, held-judged}
+use Rattle.demands.proofs.Judge.{judged-exactly}
 use Rattle.demands.proofs.Admit.{admitted-exactly, admit-refuses, admitted-good, admit-again}
 use Rattle.demands.proofs.Updated.{Once, updated-good, updated-once, named-done, other-kept}
 use Rattle.demands.proofs.Apply.{accepted-exactly, apply-refuses, never-again}
+use Rattle.demands.proofs.Written.{admit-written, apply-written}
 use Rattle.witness.specs.SmallCell.{small}
 use Rattle.witness.specs.SmallUpdates.{moving, deleting, chartSmall, chartMoved, heldSmall, heldMoved}
+use Rattle.witness.specs.SmallOffers.{room}
 use Rattle.witness.proofs.Computing.{judging, admitting, applying, smallFiles}
 use Rattle.witness.proofs.HeldLaws.{held-is-bytes, held-is-readable}
-use Rattle.witness.proofs.Admitted.{small-bytes, small-held, held-length, small-count, small-accepted}
+use Rattle.witness.proofs.Judged.{small-judged}
+use Rattle.witness.proofs.Admitted.{small-bytes, small-held, held-length, small-count, small-accepted, room-length}
 use Rattle.witness.proofs.Applied.{moving-bytes, small-whole, moved-whole, moved-held, small-records, moved-records, moves-code, moving-allowed, moving-accepted}
 use Rattle.witness.proofs.Applied.{deleting-early}
 
@@ -37,6 +42,10 @@ code-of e = ap (λ (x : Answer). x .code) e
 accepted : admitOf small 112 2077 .code ≡ 0
 accepted = small-accepted 112 2077 (omega arith) (omega arith)
 
+-- ---- Judge: `judged-exactly`
+pub small-judgeable : Judgeable small 112
+small-judgeable = judged-exactly small 112 small-bytes .0 (code-of small-judged)
+
 -- ---- Admit: `admitted-exactly` and `admit-writes` are met in Admitted.antt
 -- `admit-refuses`: a byte of work too few
 pub small-refused : (out : List ℕ) → admitArea small 111 out ≡ out
@@ -45,6 +54,10 @@ small-refused out = admit-refuses small 111 out (λ h. let a = admitted-exactly 
 -- `admitted-good`
 pub small-good : Good chartSmall
 small-good = admitted-good small 112 2077 small-bytes accepted
+
+-- `admit-written`: what is written reads back as the cell's chart
+pub small-written : ReadsAs (admittedBytes small 112 room) chartSmall
+small-written = admit-written small 112 room small-bytes (small-accepted 112 (length room) (omega arith) (omega (arith, room-length)))
 
 -- `admit-again`: the held form is admitted as itself
 pub held-again : (out : List ℕ) → 2077 ≤ length out → (admitOf heldSmall 112 (length out) ≡ answer 0 0 0 2077 0) × (admitArea heldSmall 112 out ≡ heldSmall ++ drop 2077 out)
@@ -63,8 +76,14 @@ moved-judged w work = rw moved-held at (held-judged chartMoved (moved-whole .goo
 -- `accepted-exactly`
 pub moving-exactly : Allowed (cellChart heldSmall) moving × Areas heldSmall moving 160 2077
 moving-exactly =
-    accepted-exactly heldSmall moving 160 2077 (held-is-bytes chartSmall small-whole heldSmall small-held) moving-bytes
+    accepted-exactly heldSmall moving 160 2077 moving-bytes
     (held-is-readable chartSmall small-whole heldSmall small-held) .0 (moving-accepted 160 2077 (omega arith) (omega arith))
+
+-- `apply-written`: what is written for update 1 reads back as the updated chart, and against the cell it is the update that was done
+pub moving-written : Applied heldSmall moving (appliedBytes heldSmall moving 160 room)
+moving-written =
+    apply-written heldSmall moving 160 room (held-is-bytes chartSmall small-whole heldSmall small-held) moving-bytes
+    (moving-accepted 160 (length room) (omega arith) (omega (arith, room-length)))
 
 -- `apply-refuses`: update 2 too early
 pub early-kept : (out : List ℕ) → applyArea heldSmall deleting 160 out ≡ out
@@ -89,9 +108,9 @@ moved-done = named-done chartSmall moving moving-bytes moving-allowed
 two-names : _≡_ {A = ℕ} 4294967297 4294967298 → ⊥
 two-names e = omega arith
 
-others-differ : Differs (λ (a : Amendment). objectName (a .object)) 4294967297 (fileChange moving .amendments)
+others-differ : All (λ (a : Amendment). 4294967297 ≡ objectName (a .object) → ⊥) (fileChange moving .amendments)
 unfolding judging admitting applying smallFiles recordsIn
-others-differ = diff-more two-names diff-none
+others-differ = all-more two-names all-none
 
 pub other-node : heldBy (chartMoved .objects) (nameFrom 120 1) ≡ heldBy (chartSmall .objects) (nameFrom 120 1)
 unfolding judging

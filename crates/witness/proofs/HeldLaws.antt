@@ -67,7 +67,7 @@ module _ (c : Chart) (whole : Whole c) (cell : List ℕ) (is : heldOf c ≡ cell
 
     pub accepted-here : (w o : ℕ) → 16 * (recordCount c + changesIn file) ≤ w → length next ≤ o → applyOf cell file w o .code ≡ 0
     accepted-here w o work room =
-        accepted-exactly cell file w o held-is-bytes these held-is-readable .1
+        accepted-exactly cell file w o these held-is-readable .1
         (allowed-here, record { work = omega (arith, held-records); output = omega (arith, ap length same-result) })
 
     pub written-here : (w : ℕ) (out : List ℕ) → 16 * (recordCount c + changesIn file) ≤ w → length next ≤ length out

@@ -25,7 +25,7 @@ use Rattle.witness.proofs.Computing.{judging, admitting, applying, smal
 use Rattle.witness.proofs.Admitted.{room-length, small-held, small-accepted}
 use Rattle.witness.proofs.Applied.{small-means, moved-means, deleted-means, moving-bytes, deleting-bytes, small-whole, moved-whole, deleted-whole, moved-held}
 use Rattle.witness.proofs.Applied.{deleted-held, small-records, moving-count, moved-records, moving-accepted, deleting-accepted, held-lengths}
-use Rattle.witness.proofs.HeldLaws.{held-is-bytes, held-is-readable, held-means, held-records}
+use Rattle.witness.proofs.HeldLaws.{held-is-readable, held-means, held-records}
 
 -- ---- numbers
 pub numbers : (chartNumber chartSmall ≡ 0) × (chartNumber chartMoved ≡ 1) × (chartNumber chartDeleted ≡ 2) × (numberOf moving ≡ 1) × (numberOf deleting ≡ 2)
@@ -45,7 +45,7 @@ shown-each = (
 kept : (c : Chart) → Whole c → (cell : List ℕ) → heldOf c ≡ cell → (o : Offer) → Bytes (o .file) → (numberOf (o .file) ≡ chartNumber c + 1 → ⊥) → offered cell o ≡ cell
 kept c whole cell is o these not =
     offered-kept cell o (λ h.
-    let a = apply-allowed cell (o .file) (o .work) (length (o .area)) (held-is-bytes c whole cell is) these h in
+    let a = apply-allowed cell (o .file) (o .work) (length (o .area)) these h in
     not (allowed-next (cellChart cell) (o .file) a ∙ ap (λ (x : Chart). chartNumber x + 1) (held-means c whole cell is)))
 
 too-early : offered heldSmall (lent deleting) ≡ heldSmall
@@ -73,7 +73,7 @@ too-late = kept chartDeleted deleted-whole heldDeleted deleted-held (lent moving
 short : (o : Offer) → o .file ≡ moving → (Areas heldSmall moving (o .work) (length (o .area)) → ⊥) → offered heldSmall o ≡ heldSmall
 short o is not =
     offered-kept heldSmall o (λ h.
-    not (accepted-exactly heldSmall moving (o .work) (length (o .area)) (held-is-bytes chartSmall small-whole heldSmall small-held) moving-bytes
+    not (accepted-exactly heldSmall moving (o .work) (length (o .area)) moving-bytes
     (held-is-readable chartSmall small-whole heldSmall small-held) .0 (rw is at h) .1))
 
 few-work : offered heldSmall (narrow moving) ≡ heldSmall

@@ -15,13 +15,14 @@ use Rattle.demands.proofs.Apply.{accepted-exactly}
 use Rattle.demands.proofs.Admit.{admitted-exactly}
 use Rattle.unit.specs.Unit.{admitWrote, Offer, offered, after, filesOf, In, BytesEach, UnitOf}
 use Rattle.unit.specs.Unit.UnitOf.{begun, given}
-use Rattle.unit.specs.Reissue.{shown, numberOf, OneEach, worked, Series, Reissue}
+use Rattle.unit.specs.Reissue.{shown, numberOf, OneEach, worked, Series, Worked, Reissue}
 use Rattle.unit.specs.Reissue.Series.{ended, next}
 use Rattle.unit.specs.Enough.{Enough}
 use Rattle.unit.specs.Enough.Enough.{enough-none, enough-more}
 use Rattle.unit.specs.Library.{reissueAt, Shelved}
-use Rattle.unit.proofs.OfferLaws.{in-each, in-one-each, unit-shows-each, two-units, two-units-again, unit-reaches}
+use Rattle.unit.proofs.OfferLaws.{in-left, in-each, in-one-each, unit-after, unit-shows-each, two-units, two-units-again, unit-reaches}
 use Rattle.unit.proofs.LibraryLaws.{unit-is}
+use Rattle.unit.proofs.UnitLaws.{unit-worked}
 use Rattle.unit.proofs.StepLaws.{unit-steps, unit-takes, unit-gap, unit-earlier, unit-once, unit-admits}
 use Rattle.witness.specs.SmallCell.{small}
 use Rattle.witness.specs.SmallUpdates.{moving, deleting, chartSmall, chartMoved, heldSmall, heldMoved, heldDeleted}
@@ -67,6 +68,12 @@ offers-one =
     (all-more only-deleting (all-more only-moving (all-more only-moving (all-more only-deleting
     (all-more only-moving (all-more only-moving (all-more only-moving (all-more only-deleting (all-more only-moving all-none)))))))))
 
+-- ---- `unit-worked` of the first unit after all its offers, without the second premise: offered updates of the numbers 1 and 2 are worked in
+pub small-worked : Worked (In all-offers) chartSmall 2 heldDeleted
+small-worked =
+    rw (after-each .3, shown-each .2) at
+    (unit-worked small-bytes offers-bytes (unit-after (admitWrote small 112 room) offers (in-left offers others) (begun 112 room room-accepted)))
+
 -- ---- `unit-shows-each` of the first unit after all its offers: the bytes held are the re-issue of the base at 2
 pub small-shows : Reissue (In all-offers) chartSmall 2 heldDeleted
 small-shows = rw (after-each .3, shown-each .2) at (unit-shows-each small small-bytes 112 room room-accepted offers others offers-bytes offers-one)
@@ -90,12 +97,12 @@ small-series = next (List·Memᴰ·tail (List·Memᴰ·head refl)) moving-allowe
 
 first-areas : Areas heldSmall moving 160 (length room)
 first-areas =
-    accepted-exactly heldSmall moving 160 (length room) (held-is-bytes chartSmall small-whole heldSmall small-held) moving-bytes
+    accepted-exactly heldSmall moving 160 (length room) moving-bytes
     (held-is-readable chartSmall small-whole heldSmall small-held) .0 (moving-accepted 160 (length room) (omega arith) (omega (arith, room-length))) .1
 
 second-areas : Areas heldMoved deleting 160 (length room)
 second-areas =
-    accepted-exactly heldMoved deleting 160 (length room) (held-is-bytes chartMoved moved-whole heldMoved moved-held) deleting-bytes
+    accepted-exactly heldMoved deleting 160 (length room) deleting-bytes
     (held-is-readable chartMoved moved-whole heldMoved moved-held) .0 (deleting-accepted 160 (length room) (omega arith) (omega (arith, room-length))) .1
 
 small-enough : Enough heldSmall (lent moving ∷ lent deleting ∷ [])

@@ -1,4 +1,4 @@
--- The loaders that document 01 shuts out ("Strength of the promises"): none of them keeps the contract of Admit or of Apply, as the small cell and its updates show.
+-- The loaders that document 01 shuts out ("Strength of the promises"): none of them keeps the contract of Judge, of Admit or of Apply, as the small cell and its updates show.
 -- `admit-number`, `apply-number`: one that keeps it invents no length on any call. Assumes nothing.
 use Prim.Native.Nat.{ℕ}
 use mathlib.Core.List.{List, [], _++_, map}
@@ -11,21 +11,26 @@ use Rattle.reader.specs.declared.answer.Answer.{Answer}
 use Rattle.objects.specs.Object.{Object}
 use Rattle.held.specs.Chart.{Chart}
 use Rattle.held.specs.Held.{heldOf}
+use Rattle.loader.specs.Judge.{judgeOf}
 use Rattle.loader.specs.Admit.{admitOf}
+use Rattle.loader.specs.Apply.{applyOf}
 use Rattle.demands.specs.Cell.{recordsIn, cellChart}
 use Rattle.demands.specs.Update.{updatedBy}
 use Rattle.demands.proofs.ReadsBack.{held-admitted, held-again}
 use Rattle.demands.proofs.Admit.{admit-writes}
 use Rattle.demands.proofs.Apply.{apply-writes}
+use Rattle.demands.proofs.Needs.{judge-work, admit-work, apply-work, admit-room, apply-room}
 use Rattle.witness.specs.SmallCell.{small}
 use Rattle.witness.specs.SmallUpdates.{moving, deleting, chartSmall, chartMoved, heldSmall, heldMoved, heldDeleted}
 use Rattle.witness.specs.SmallOffers.{room}
 use Rattle.witness.specs.Loaders.{Left, Admitter, Applier, wrote, KeepsAdmit, KeepsApply, AdmitsNothing, AppliesNothing, AdmitsAlike, AppliesAlike, WritesAlike, Copies}
-use Rattle.witness.specs.Loaders.{WorksAhead, InventsAdmitted, InventsApplied}
+use Rattle.witness.specs.Loaders.{WorksAhead, InventsAdmitted, InventsApplied, Judger, KeepsJudge, JudgesNothing, JudgesAlike, InventsAdmitRoom, InventsApplyRoom}
+use Rattle.witness.specs.Loaders.{InventsJudgeWork, InventsAdmitWork, InventsApplyWork}
 use Rattle.witness.proofs.Computing.{judging, admitting, applying, smallFiles}
-use Rattle.witness.proofs.Admitted.{small-admitted, held-length, room-length}
+use Rattle.witness.proofs.Judged.{small-judged}
+use Rattle.witness.proofs.Admitted.{small-admitted, held-length, room-length, small-bytes, small-admissible, small-count, small-held}
 use Rattle.witness.proofs.Applied.{moved-whole, moved-held, moved-records, deleted-records, held-lengths, small-means, moved-means, deleted-means, moving-applied}
-use Rattle.witness.proofs.Applied.{deleting-applied, moving-again}
+use Rattle.witness.proofs.Applied.{deleting-applied, moving-again, moving-allowed, moving-count, moved-held}
 
 code-of : {a b : Answer} → a ≡ b → a .code ≡ b .code
 code-of e = ap (λ (x : Answer). x .code) e
@@ -98,6 +103,9 @@ unfolding secondVersion judging admitting applying smallFiles recordsIn
 versions = (refl, refl)
 
 -- ---- "a loader that refuses everything"
+pub not-nothing-judged : {judge : Judger} → KeepsJudge judge → JudgesNothing judge → ⊥
+not-nothing-judged k wrong = wrong .never small 112 (code-of (k .told small 112 ∙ small-judged))
+
 pub not-nothing-admitted : {admit : Admitter} → KeepsAdmit admit → AdmitsNothing admit → ⊥
 not-nothing-admitted k wrong = wrong .never small 112 room (code-of (small-told k))
 
@@ -109,6 +117,17 @@ not-nothing-applied k wrong = wrong .never heldSmall moving 160 room (code-of (m
 empty-refused : admitOf [] 112 2077 .code ≡ 2
 unfolding judging admitting
 empty-refused = refl
+
+empty-judged : judgeOf [] 112 .code ≡ 2
+unfolding judging
+empty-judged = refl
+
+pub not-alike-judged : {judge : Judger} → KeepsJudge judge → JudgesAlike judge → ⊥
+not-alike-judged {judge} k wrong =
+    let zero : judge small 112 .code ≡ 0 = code-of (k .told small 112 ∙ small-judged) in
+    let two : judge [] 112 .code ≡ 2 = code-of (k .told [] 112) ∙ empty-judged in
+    let same = wrong .alike small [] 112 in
+    omega arith
 
 pub not-alike-admitted : {admit : Admitter} → KeepsAdmit admit → AdmitsAlike admit → ⊥
 not-alike-admitted {admit} k wrong =
@@ -166,3 +185,38 @@ not-invented-admitted k wrong = wrong .other small 112 room (code-of (small-told
 
 pub not-invented-applied : {apply : Applier} → KeepsApply apply → InventsApplied apply → ⊥
 not-invented-applied k wrong = wrong .other heldSmall moving 160 room (code-of (moving-told k)) (apply-number k heldSmall moving 160 room (code-of (moving-told k)))
+
+-- with 21: the small cell and its update 1, with no output
+number-of : {a b : Answer} → a ≡ b → a .number ≡ b .number
+number-of e = ap (λ (x : Answer). x .number) e
+
+no-admit-room : admitOf small 112 0 ≡ answer 21 0 0 (length (heldOf (cellChart small))) 0
+no-admit-room =
+    let a = small-admissible in
+    admit-room small 112 0 small-bytes (a .readable) (a .sound) (a .limits) (omega (arith, small-count)) (omega (arith, ap length small-held, held-length))
+
+pub not-invented-admit-room : {admit : Admitter} → KeepsAdmit admit → InventsAdmitRoom admit → ⊥
+not-invented-admit-room k wrong = let e = k .told small 112 [] ∙ no-admit-room in wrong .other small 112 [] (code-of e) (number-of e)
+
+no-apply-room : applyOf small moving 160 0 ≡ answer 21 0 0 (length (heldOf (updatedBy (cellChart small) moving))) 0
+no-apply-room =
+    apply-room small moving 160 0 (small-admissible .readable) moving-allowed (omega (arith, small-count, moving-count)) (omega (arith, ap length moved-held, held-lengths .0))
+
+pub not-invented-apply-room : {apply : Applier} → KeepsApply apply → InventsApplyRoom apply → ⊥
+not-invented-apply-room k wrong = let e = k .told small moving 160 [] ∙ no-apply-room in wrong .other small moving 160 [] (code-of e) (number-of e)
+
+-- with 3: the same, with no work area
+pub not-invented-judge-work : {judge : Judger} → KeepsJudge judge → InventsJudgeWork judge → ⊥
+not-invented-judge-work k wrong =
+    let e = k .told small 0 ∙ judge-work small 0 (small-admissible .readable .opened) (omega (arith, small-count)) in
+    wrong .other small 0 (code-of e) (number-of e)
+
+pub not-invented-admit-work : {admit : Admitter} → KeepsAdmit admit → InventsAdmitWork admit → ⊥
+not-invented-admit-work k wrong =
+    let e = k .told small 0 [] ∙ admit-work small 0 0 (small-admissible .readable .opened) (omega (arith, small-count)) in
+    wrong .other small 0 [] (code-of e) (number-of e)
+
+pub not-invented-apply-work : {apply : Applier} → KeepsApply apply → InventsApplyWork apply → ⊥
+not-invented-apply-work k wrong =
+    let e = k .told small moving 0 [] ∙ apply-work small moving 0 0 (small-admissible .readable .opened) (moving-allowed .reads .opened) (omega (arith, small-count, moving-count)) in
+    wrong .other small moving 0 [] (code-of e) (number-of e)

@@ -1,21 +1,25 @@
--- Loaders as functions: what it is to keep the contract of Admit or of Apply, and the five that document 01 shuts out. Assumes nothing.
-use Prim.Native.Nat.{ℕ}
+-- Loaders as functions: what it is to keep the contract of Judge, of Admit or of Apply, and the five that document 01 shuts out. Assumes nothing.
+use Prim.Native.Nat.{ℕ, _+_, _*_}
 use mathlib.Core.List.{List}
 use mathlib.Core.Path.{_≡_}
 use lib.ListN.{length, take}
 use Rattle.reader.specs.declared.answer.Answer.{Answer}
 use Rattle.held.specs.Held.{heldOf}
+use Rattle.loader.specs.Judge.{judgeOf}
 use Rattle.loader.specs.Admit.{admitOf, admitArea}
 use Rattle.loader.specs.Apply.{applyOf, applyArea}
-use Rattle.demands.specs.Cell.{cellChart}
-use Rattle.demands.specs.Update.{updatedBy}
+use Rattle.demands.specs.Cell.{countIn, cellChart}
+use Rattle.demands.specs.Update.{changesIn, updatedBy}
 
 -- what a call leaves: its answer, and the output area
 pub record Left : Type 0 where
   pub told : Answer
   pub area : List ℕ
 
--- of a cell, so many bytes of work and an output area; and of a cell and an update
+-- of a cell and so many bytes of work; besides of an output area; and of a cell and an update
+abbrev pub Judger : Type 0
+Judger = List ℕ → ℕ → Answer
+
 abbrev pub Admitter : Type 0
 Admitter = List ℕ → ℕ → List ℕ → Left
 
@@ -27,6 +31,9 @@ abbrev pub wrote : Left → List ℕ
 wrote l = take (l .told .number) (l .area)
 
 -- ---- the contracts
+pub record KeepsJudge (judge : Judger) : Type 0 where
+  pub told : (cell : List ℕ) (w : ℕ) → judge cell w ≡ judgeOf cell w
+
 pub record KeepsAdmit (admit : Admitter) : Type 0 where
   pub told : (cell : List ℕ) (w : ℕ) (out : List ℕ) → admit cell w out .told ≡ admitOf cell w (length out)
   pub area : (cell : List ℕ) (w : ℕ) (out : List ℕ) → admit cell w out .area ≡ admitArea cell w out
@@ -36,6 +43,9 @@ pub record KeepsApply (apply : Applier) : Type 0 where
   pub area : (cell file : List ℕ) (w : ℕ) (out : List ℕ) → apply cell file w out .area ≡ applyArea cell file w out
 
 -- ---- "a loader that refuses everything"
+pub record JudgesNothing (judge : Judger) : Type 0 where
+  pub never : (cell : List ℕ) (w : ℕ) → judge cell w .code ≡ 0 → ⊥
+
 pub record AdmitsNothing (admit : Admitter) : Type 0 where
   pub never : (cell : List ℕ) (w : ℕ) (out : List ℕ) → admit cell w out .told .code ≡ 0 → ⊥
 
@@ -43,6 +53,9 @@ pub record AppliesNothing (apply : Applier) : Type 0 where
   pub never : (cell file : List ℕ) (w : ℕ) (out : List ℕ) → apply cell file w out .told .code ≡ 0 → ⊥
 
 -- ---- "one answer for every cell": one code; or, for all cells that are accepted, one re-issue
+pub record JudgesAlike (judge : Judger) : Type 0 where
+  pub alike : (a b : List ℕ) (w : ℕ) → judge a w .code ≡ judge b w .code
+
 pub record AdmitsAlike (admit : Admitter) : Type 0 where
   pub alike : (a b : List ℕ) (w : ℕ) (out : List ℕ) → admit a w out .told .code ≡ admit b w out .told .code
 
@@ -71,3 +84,21 @@ pub record InventsAdmitted (admit : Admitter) : Type 0 where
 pub record InventsApplied (apply : Applier) : Type 0 where
   pub other : (cell file : List ℕ) (w : ℕ) (out : List ℕ) → apply cell file w out .told .code ≡ 0
       → apply cell file w out .told .number ≡ length (heldOf (updatedBy (cellChart cell) file)) → ⊥
+
+-- with 21 and with 3 Number isn't "bytes needed"
+pub record InventsAdmitRoom (admit : Admitter) : Type 0 where
+  pub other : (cell : List ℕ) (w : ℕ) (out : List ℕ) → admit cell w out .told .code ≡ 21 → admit cell w out .told .number ≡ length (heldOf (cellChart cell)) → ⊥
+
+pub record InventsApplyRoom (apply : Applier) : Type 0 where
+  pub other : (cell file : List ℕ) (w : ℕ) (out : List ℕ) → apply cell file w out .told .code ≡ 21
+      → apply cell file w out .told .number ≡ length (heldOf (updatedBy (cellChart cell) file)) → ⊥
+
+pub record InventsJudgeWork (judge : Judger) : Type 0 where
+  pub other : (cell : List ℕ) (w : ℕ) → judge cell w .code ≡ 3 → judge cell w .number ≡ 16 * countIn cell → ⊥
+
+pub record InventsAdmitWork (admit : Admitter) : Type 0 where
+  pub other : (cell : List ℕ) (w : ℕ) (out : List ℕ) → admit cell w out .told .code ≡ 3 → admit cell w out .told .number ≡ 16 * countIn cell → ⊥
+
+pub record InventsApplyWork (apply : Applier) : Type 0 where
+  pub other : (cell file : List ℕ) (w : ℕ) (out : List ℕ) → apply cell file w out .told .code ≡ 3
+      → apply cell file w out .told .number ≡ 16 * (countIn cell + changesIn file) → ⊥

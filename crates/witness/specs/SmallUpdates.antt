@@ -11,16 +11,28 @@ use Rattle.witness.specs.Records.{fieldEnd, declared, declaredFirst, dec
 use Rattle.witness.specs.Records.{updateHeading, parameters, vrid, pair, node, edge, frid, foid, feature}
 use Rattle.witness.specs.SmallCell.{small}
 
--- ---- update 1 moves node 2: a modify, whose SGCC replaces its one pair
-unfoldable pub moving : List ℕ
-moving =
+-- ---- update 1 moves node 2
+-- record 0 of an update of vectors
+unfoldable pub vectorFirst : List ℕ
+vectorFirst =
     flatten
     (bytes "004383LE1 0900095 ! 3304" ∷ bytes "0000001000" ∷ bytes "0001017001" ∷ bytes "DSID136018" ∷ bytes "DSSI077154" ∷ bytes "VRID048231" ∷ bytes "SGCC036279"
     ∷ bytes "SG2D028315" ∷ fieldEnd
-    ∷ declaredFirst ∷ declaredDsid ∷ declaredDssi ∷ declaredVrid ∷ declared "CCUI!CCIX!CCNC" "(b11,2b12)" ∷ declaredPairs
-    ∷ updateHeading "001" "1" "        20240201"
-    ∷ bytes "00080 D     00053   1204" ∷ bytes "0001300" ∷ bytes "VRID903" ∷ bytes "SGCC612" ∷ bytes "SG2D918" ∷ fieldEnd
-    ∷ bytesOf 2 2 ∷ fieldEnd ∷ vrid 120 2 2 3 ∷ fieldEnd ∷ (3 ∷ []) ∷ bytesOf 2 1 ∷ bytesOf 2 1 ∷ fieldEnd ∷ pair 20000000 ∷ fieldEnd ∷ [])
+    ∷ declaredFirst ∷ declaredDsid ∷ declaredDssi ∷ declaredVrid ∷ declared "CCUI!CCIX!CCNC" "(b11,2b12)" ∷ declaredPairs ∷ [])
+
+-- a modify of node 2: its SGCC replaces the pair at this index by one with this XCOO
+unfoldable pub shift : ℕ → ℕ → List ℕ
+shift index x =
+    flatten
+    (bytes "00080 D     00053   1204" ∷ bytes "0001300" ∷ bytes "VRID903" ∷ bytes "SGCC612" ∷ bytes "SG2D918" ∷ fieldEnd
+    ∷ bytesOf 2 2 ∷ fieldEnd ∷ vrid 120 2 2 3 ∷ fieldEnd ∷ (3 ∷ []) ∷ bytesOf 2 index ∷ bytesOf 2 1 ∷ fieldEnd ∷ pair x ∷ fieldEnd ∷ [])
+
+-- update 1, of one record
+unfoldable pub vectorUpdate : List ℕ → List ℕ
+vectorUpdate change = flatten (vectorFirst ∷ updateHeading "001" "1" "        20240201" ∷ change ∷ [])
+
+unfoldable pub moving : List ℕ
+moving = vectorUpdate (shift 1 20000000)
 
 -- ---- update 2 deletes the line
 unfoldable pub deleting : List ℕ

@@ -1,0 +1,87 @@
+-- What Apply does with other updates of the small cell, computed: the three errors that document 01 has met, an insert, edits of attributes and of pointers, and which of
+-- several faults of one record is told. Assumes nothing.
+use mathlib.Core.List.{List, [], _∷_, map}
+use mathlib.Core.Path.{_≡_, refl}
+use Prim.Native.Nat.{ℕ}
+use Rattle.table.specs.Table.{ATTF, FSPT}
+use Rattle.chart.specs.Read.{refusal, fine}
+use Rattle.reader.specs.Reader.{answer, updateFault}
+use Rattle.objects.specs.Object.{Object}
+use Rattle.held.specs.Chart.{Chart}
+use Rattle.changes.specs.Amend.{changeFault}
+use Rattle.loader.specs.Apply.{applyOf}
+use Rattle.demands.specs.Cell.{recordsIn}
+use Rattle.demands.specs.Update.{fileChange, updatedBy}
+use Rattle.witness.specs.SmallCell.{small}
+use Rattle.witness.specs.SmallUpdates.{chartSmall}
+use Rattle.witness.specs.OtherUpdates.{fromZero, sinking, inserting, clearing, naming, emptying, removing, masking, faulty}
+use Rattle.witness.proofs.Computing.{judging, admitting, applying, smallFiles, otherFiles}
+
+-- ---- "Errors we have met": "Counting list indexes from 0": index 0 is refused
+pub index-zero : applyOf small fromZero 160 2077 ≡ answer 16 2 2 0 581
+unfolding judging admitting applying smallFiles otherFiles
+index-zero = refl
+
+-- ---- "Resolving pointers before the update's own deletes": node 2 goes, at which the edge ends, by then the fifth record of the result
+pub sinking-18 : applyOf small sinking 160 2077 ≡ answer 18 3 4 0 0
+unfolding judging admitting applying smallFiles otherFiles
+sinking-18 = refl
+
+-- with the edge and the line, which are deleted behind it, it may go: node 1 is left
+pub clearing-done : applyOf small clearing 192 2077 .code ≡ 0
+unfolding judging admitting applying smallFiles otherFiles
+clearing-done = refl
+
+-- ---- "Taking an empty value as removal": update 1 appends the attribute, update 2 makes its value empty and it stays, update 3 has 7F and removes it
+abbrev chartNamed : Chart
+chartNamed = updatedBy chartSmall naming
+
+abbrev chartEmptied : Chart
+chartEmptied = updatedBy chartNamed emptying
+
+abbrev chartRemoved : Chart
+chartRemoved = updatedBy chartEmptied removing
+
+-- a list of each object: node 1, node 2, the edge, the line
+abbrev listsIn : ℕ → Chart → List (List (List ℕ))
+listsIn k c = map (λ (t : Object). t .lists k) (c .objects)
+
+pub attribute-given : (changeFault chartSmall (fileChange naming) ≡ fine) × (listsIn ATTF chartNamed ≡ [] ∷ [] ∷ [] ∷ ((116 ∷ 0 ∷ 65 ∷ 31 ∷ []) ∷ []) ∷ [])
+unfolding judging admitting applying smallFiles otherFiles recordsIn
+attribute-given = (refl, refl)
+
+pub empty-stays : (changeFault chartNamed (fileChange emptying) ≡ fine) × (listsIn ATTF chartEmptied ≡ [] ∷ [] ∷ [] ∷ ((116 ∷ 0 ∷ 31 ∷ []) ∷ []) ∷ [])
+unfolding judging admitting applying smallFiles otherFiles recordsIn
+empty-stays = (refl, refl)
+
+pub removal-removes : (changeFault chartEmptied (fileChange removing) ≡ fine) × (listsIn ATTF chartRemoved ≡ [] ∷ [] ∷ [] ∷ [] ∷ [])
+unfolding judging admitting applying smallFiles otherFiles recordsIn
+removal-removes = (refl, refl)
+
+-- the three files are readable
+pub attribute-files : (updateFault naming 3 ≡ fine) × (updateFault emptying 3 ≡ fine) × (updateFault removing 3 ≡ fine)
+unfolding judging applying smallFiles otherFiles
+attribute-files = (refl, refl, refl)
+
+-- ---- an insert: node 3 stands behind node 2
+pub inserted : (applyOf small inserting 160 2144 ≡ answer 0 0 0 2144 0) × (map (λ (t : Object). t .rcid) (updatedBy chartSmall inserting .objects) ≡ 1 ∷ 2 ∷ 3 ∷ 1 ∷ 1 ∷ [])
+unfolding judging admitting applying smallFiles otherFiles recordsIn
+inserted = (refl, refl)
+
+-- ---- FSPC on the line: its one pointer is replaced
+pub pointer-masked : (applyOf small masking 160 2077 ≡ answer 0 0 0 2077 0)
+    × (listsIn FSPT (updatedBy chartSmall masking) ≡ [] ∷ [] ∷ [] ∷ ((130 ∷ 1 ∷ 0 ∷ 0 ∷ 0 ∷ 1 ∷ 255 ∷ 1 ∷ []) ∷ []) ∷ [])
+unfolding judging admitting applying smallFiles otherFiles recordsIn
+pointer-masked = (refl, refl)
+
+-- ---- one record with several faults: "13 to 16 record by record", and of one record the lowest. RVER isn't the held plus 1, OBJL isn't the held, and FSPT has no control;
+-- then the last two; then the last
+pub lowest-told : (changeFault chartSmall (fileChange (faulty 3 31)) ≡ refusal 14 2 0) × (changeFault chartSmall (fileChange (faulty 2 31)) ≡ refusal 15 2 0)
+    × (changeFault chartSmall (fileChange (faulty 2 30)) ≡ refusal 16 2 0)
+unfolding judging admitting applying smallFiles otherFiles recordsIn
+lowest-told = (refl, refl, refl)
+
+-- ---- "length 0 is Frame", of an update
+pub empty-update : applyOf small [] 160 2077 ≡ answer 2 2 0 0 0
+unfolding judging admitting applying smallFiles
+empty-update = refl
