@@ -1,9 +1,9 @@
 -- The controls as they are read, and the list that each means: one law for each way through the code. Assumes nothing.
 use Prim.Native.Nat.{ℕ, zero, suc, _+_, _*_, _≤_, _<_}
-use mathlib.Core.Bool.{Bool, true, false, cond, _||_}
+use mathlib.Core.Bool.{true, false, cond, _||_}
 use mathlib.Core.List.{List, [], _∷_}
 use mathlib.Core.Logic.{_⊎_, ⊎-elim}
-use mathlib.Core.Option.{Option, none, some}
+use mathlib.Core.Option.{none, some}
 use mathlib.Core.Path.{_≡_, refl, sym, ap, _∙_}
 use native.Mathlib.Nat.{zero-add}
 use native.Mathlib.Omega.{arith}
@@ -12,13 +12,11 @@ use lib.Dec.{eqb}
 use borrow.Author.Tests.{eq-eqb, ne-eqb}
 use Rattle.octets.specs.Number.{byteAt, numAt, Reads}
 use Rattle.octets.specs.Area.{Has, Wrote}
-use Rattle.octets.proofs.AreaLaws.{wrote-has, wrote-length}
-use Rattle.octets.proofs.Cases.{true-or-false}
+use Rattle.octets.proofs.AreaLaws.{wrote-has}
 use Rattle.table.specs.Table.{SG2D, SG3D}
 use Rattle.items.specs.Lists.{listAt}
-use Rattle.edits.specs.Control as edits
 use Rattle.splice.specs.declared.control.Control.{Control}
-use Rattle.splice.specs.Given.{numbersOf, optionOf, Given}
+use Rattle.splice.specs.Given.{optionOf, Given}
 use Rattle.changes.specs.Change.{controlFrom, controlAt}
 use Rattle.amend.specs.Controls.{ControlSize, coordinatesBy, chosen}
 

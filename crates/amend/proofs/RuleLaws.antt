@@ -19,7 +19,7 @@ use Rattle.table.specs.Table.{rowOf, table, SG2D, SG3D}
 use Rattle.layout.specs.Layout.{shapeOf}
 use Rattle.items.specs.Identity.{rcnmAt}
 use Rattle.items.specs.Lists.{LaidOut, listAt, entriesAt}
-use Rattle.objects.specs.Object.{objectAt, listOf, isFeature}
+use Rattle.objects.specs.Object.{listOf, isFeature}
 use Rattle.objects.proofs.BytesLaws.{list-bytes}
 use Rattle.edits.specs.Lists.{Edit, isNone, coordinates, controlOf, allowedAt, listsAllowed}
 use Rattle.splice.specs.declared.control.Control.{Control}
@@ -27,12 +27,12 @@ use Rattle.splice.specs.Given.{optionOf, Given}
 use Rattle.splice.specs.Put.{ListPut}
 use Rattle.splice.proofs.PutLaws.{put-refused, put-allowed}
 use Rattle.changes.specs.Amend.{kindsOf}
-use Rattle.changes.specs.Change.{controlAt, amendmentAt, editOf}
+use Rattle.changes.specs.Change.{controlAt, amendmentAt}
 use Rattle.amend.specs.Controls.{coordinatesBy, chosen}
 use Rattle.amend.specs.Sides.{Sides, Picked, Areas}
 use Rattle.amend.specs.declared.control.Controls.{Controls}
 use Rattle.amend.specs.declared.plan.Plan.{Plan}
-use Rattle.amend.specs.Pairs.{Paired, BothRead, Controlled, FourLists, PlanFor}
+use Rattle.amend.specs.Pairs.{Paired, BothRead, FourLists, PlanFor}
 
 -- ---- the kinds
 four : (P : ℕ → Type 0) → P 0 → P 1 → P 2 → P 3 → (i : ℕ) → i < 4 → P i

@@ -1,13 +1,11 @@
 -- Two lists copied one behind the other. Assumes nothing.
 use Prim.Native.Nat.{ℕ, _+_, _-_, _≤_}
-use mathlib.Core.List.{List, _++_}
-use mathlib.Core.Path.{_≡_, refl, sym, ap, _∙_}
-use native.Mathlib.Nat.{zero-add}
+use mathlib.Core.List.{List}
+use mathlib.Core.Path.{_≡_}
 use native.Mathlib.Omega.{arith}
-use lib.ListN.{length, take, drop, length-append}
-use Rattle.octets.specs.Area.{Has, Wrote}
+use lib.ListN.{length}
+use Rattle.octets.specs.Area.{Wrote}
 use Rattle.octets.proofs.AreaLaws.{has-left, has-right, has-part, wrote-join, wrote-has, wrote-length}
-use Rattle.amend.specs.declared.lists.Split.{Split}
 use Rattle.amend.specs.Sides.{SideBySide}
 
 pub sides-first : (old new area : List ℕ) → length old + length new ≤ length area → 0 + length old ≤ length area

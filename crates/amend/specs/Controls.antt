@@ -1,5 +1,5 @@
 -- The controls of a record of an update as the code reads them. Nothing here need be believed. Assumes nothing.
-use Prim.Native.Nat.{ℕ, _≤_}
+use Prim.Native.Nat.{ℕ}
 use mathlib.Core.Bool.{cond, _||_}
 use mathlib.Core.List.{List, []}
 use mathlib.Core.Logic.{_⊎_}

@@ -1,6 +1,6 @@
 -- A record of the cell and a record of the update that names it, as the code takes them, and the areas that it is lent. Nothing here need be
 -- believed. Assumes nothing.
-use Prim.Native.Nat.{ℕ, _+_, _-_, _≤_, _<_}
+use Prim.Native.Nat.{ℕ, _-_, _≤_, _<_}
 use mathlib.Core.Bool.{Bool, true, cond}
 use mathlib.Core.List.{List, flatten}
 use mathlib.Core.Option.{Option}

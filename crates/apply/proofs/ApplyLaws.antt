@@ -1,9 +1,9 @@
 -- Laws of the first stages: the codes of reading in document 01's order, then Apply whole. Assumes nothing.
 use Prim.Native.Nat.{ℕ, _+_, _-_, _*_, _≤_, _<_}
-use mathlib.Core.Bool.{Bool, true, false, cond}
+use mathlib.Core.Bool.{true, false}
 use mathlib.Core.List.{List}
 use mathlib.Core.Logic.{⊎-elim}
-use mathlib.Core.Path.{_≡_, refl, sym, ap, _∙_}
+use mathlib.Core.Path.{_≡_, sym, ap, _∙_}
 use native.Mathlib.Omega.{arith}
 use lib.ListN.{length}
 use lib.Dec.{eqb}
@@ -16,8 +16,6 @@ use Rattle.reader.specs.declared.answer.Answer.{Answer}
 use Rattle.reader.specs.declared.front.Front.{Front}
 use Rattle.reader.specs.declared.front.Front.the-variants.{Count, Refused}
 use Rattle.reader.proofs.CallLaws.{few}
-use Rattle.revision.specs.Following.{Small}
-use Rattle.loader.specs.Admit.{written}
 use Rattle.loader.specs.Apply.{firstAnswer, resultOf, changeAnswer, applyChecked, applySecond, applyFirst, applyOf, appliedArea, secondArea, firstArea, applyArea}
 use Rattle.apply.specs.Stages.{areaBy, Before}
 

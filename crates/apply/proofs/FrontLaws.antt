@@ -1,5 +1,5 @@
 -- The records in front of two readable files are as the stages ask for them. Assumes nothing.
-use Prim.Native.Nat.{ℕ, _+_, _-_, _*_, _≤_, _<_}
+use Prim.Native.Nat.{ℕ, _-_, _≤_, _<_}
 use mathlib.Core.Bool.{Bool, true, false}
 use mathlib.Core.List.{List}
 use mathlib.Core.Path.{_≡_, refl, sym, ap, _∙_}
@@ -12,7 +12,7 @@ use Rattle.iso8211.specs.declared.file.Framed.the-variants.{Records}
 use Rattle.iso8211.proofs.Promise.{record-in, fields-in, at-start}
 use Rattle.table.specs.Table.{DSSI}
 use Rattle.layout.specs.Layout.{filled, contentOf}
-use Rattle.layout.specs.Record.{contentAt, Laid}
+use Rattle.layout.specs.Record.{contentAt}
 use Rattle.layout.proofs.Promise.{laid, laid-dsid, full-dssi, content-length}
 use Rattle.described.specs.Described.{describedOf}
 use Rattle.chart.specs.Read.{readFault}
@@ -24,7 +24,7 @@ use Rattle.values.proofs.DspmLaws.{dspm-laid}
 use Rattle.objects.proofs.ViewLaws.{piece-number}
 use Rattle.held.specs.Chart.{headerOf, chartOf}
 use Rattle.held.specs.Good.{GoodChart}
-use Rattle.reissue.specs.Front.{DsidIn, DspmIn}
+use Rattle.reissue.specs.Front.{DsidIn}
 use Rattle.follow.specs.Headed.{Headed}
 use Rattle.renewal.specs.Front.{Fronted}
 use Rattle.held.proofs.CellLaws.{CellTold, cell-told}

@@ -1,13 +1,13 @@
 -- Laws of the stages from code 9 to the weaving. Assumes nothing.
-use Prim.Native.Nat.{ℕ, _+_, _-_, _*_, _≤_, _<_}
-use mathlib.Core.Bool.{Bool, true, false, cond}
-use mathlib.Core.List.{List, map}
+use Prim.Native.Nat.{ℕ, _+_, _-_, _*_, _≤_}
+use mathlib.Core.Bool.{true, false}
+use mathlib.Core.List.{List}
 use mathlib.Core.Logic.{⊎-elim}
 use mathlib.Core.Path.{_≡_, refl, sym, ap, _∙_}
 use native.Mathlib.Omega.{arith}
 use lib.ListN.{length, length-replicate, replicate}
 use lib.Dec.{eqb}
-use borrow.Author.Tests.{eq-eqb, ne-eqb, eqb-true, eqb-false}
+use borrow.Author.Tests.{eq-eqb, ne-eqb, eqb-true}
 use Rattle.octets.proofs.Cases.{true-or-false}
 use Rattle.iso8211.specs.File.{recordAt}
 use Rattle.words.specs.Words.{wordsIn}
@@ -39,7 +39,7 @@ use Rattle.revision.specs.Following.{Following}
 use Rattle.revision.proofs.FollowingLaws.{cell-readable, update-readable, cell-once, update-once, cell-known, update-known}
 use Rattle.revision.proofs.AbleLaws.{all-able, once-places}
 use Rattle.revision.proofs.ObjectsLaws.{held-objects, result-objects, result-insert}
-use Rattle.loader.specs.Apply.{firstAnswer, resultOf, changeAnswer}
+use Rattle.loader.specs.Apply.{resultOf, changeAnswer}
 use Rattle.apply.specs.Stages.{resultAnswer, amendedAnswer, areaBy, renewedIn, Judging, Before, Amending, Merging}
 use Rattle.apply.proofs.FrontLaws.{cell-three, update-two, dspm-here, comf-here, front-here}
 use Rattle.apply.proofs.ResultLaws.{first-filed, first-on}

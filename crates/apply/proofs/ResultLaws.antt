@@ -1,20 +1,18 @@
 -- Laws of the last stages: the result measured and written, judged, woven. Assumes nothing.
-use Prim.Native.Nat.{ℕ, _+_, _-_, _*_, _≤_, _<_}
-use mathlib.Core.Bool.{Bool, true, false, not, cond}
+use Prim.Native.Nat.{ℕ, _-_, _≤_, _<_}
+use mathlib.Core.Bool.{true, false, not}
 use mathlib.Core.List.{List, map}
-use mathlib.Core.Path.{_≡_, refl, sym, ap, _∙_}
+use mathlib.Core.Path.{_≡_, sym, ap, _∙_}
 use native.Mathlib.Omega.{arith}
 use lib.ListN.{length}
 use lib.Dec.{eqb}
 use borrow.Author.Tests.{eq-eqb, ne-eqb, lt-leb, not-true, not-false}
-use Rattle.octets.specs.Number.{numAt}
-use Rattle.words.specs.Words.{wordsIn}
 use Rattle.chart.specs.declared.read.Refusal.{Refusal}
 use Rattle.names.specs.Comf.{comfAt}
 use Rattle.reader.specs.Reader.{filed}
 use Rattle.reader.specs.declared.answer.Answer.{Answer}
 use Rattle.topology.specs.Topology.{topologyOf}
-use Rattle.held.specs.Chart.{Chart, headerOf}
+use Rattle.held.specs.Chart.{Chart}
 use Rattle.held.specs.Held.{heldOf}
 use Rattle.held.specs.Limits.{recordCount, fits}
 use Rattle.reissue.specs.Plan.{Planned}
@@ -23,10 +21,10 @@ use Rattle.merge.specs.Places.{placesOf}
 use Rattle.merge.specs.declared.walk.At.{At}
 use Rattle.verdict.specs.Verdict.{chartTopology}
 use Rattle.result.specs.Result.{objectOf, resultItems}
-use Rattle.renewal.specs.Items.{Items, objectsIn}
+use Rattle.renewal.specs.Items.{objectsIn}
 use Rattle.renewal.specs.Renewed.{revisedHeader, renewed, Renewing}
 use Rattle.renewal.proofs.AllLaws.{objects-length}
-use Rattle.loader.specs.Admit.{heldAnswer, written, heldArea}
+use Rattle.loader.specs.Admit.{heldAnswer, heldArea}
 use Rattle.loader.specs.Apply.{firstAnswer}
 use Rattle.apply.specs.Stages.{resultAnswer, areaBy, renewedIn, Resulting, Judging}
 

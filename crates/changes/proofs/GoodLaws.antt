@@ -9,10 +9,8 @@ use native.Mathlib.Omega.{arith}
 use lib.Dec.{ltb, eqb}
 use borrow.Author.Tests.{ltb-true, ltb-false, eqb-true, eqb-false, eq-eqb, ne-eqb}
 use Rattle.octets.proofs.Cases.{true-or-false}
-use Rattle.dataset.specs.Dsid.{dsidLaid, dsidFault}
 use Rattle.objects.specs.Object.{Object}
-use Rattle.header.specs.Dsid.{dsidOf, dsidBytes}
-use Rattle.held.specs.Chart.{Header, Chart, objectName}
+use Rattle.held.specs.Chart.{Chart, objectName}
 use Rattle.held.specs.Good.{Good, Ordered, GoodChart}
 use Rattle.held.specs.Good.Ordered.{ordered-none, ordered-more}
 use Rattle.merge.specs.Updated.{Apart}

@@ -1,18 +1,16 @@
 -- The records of an update by the words of their names: what is made of a chart word by word is what its amendments make of it. Assumes
 -- nothing.
-use Prim.Native.Nat.{ℕ, zero, suc, _+_, _-_, _≤_, _<_}
-use mathlib.Core.Bool.{Bool, true, false, cond}
+use Prim.Native.Nat.{ℕ, zero, suc, _+_, _-_, _≤_}
+use mathlib.Core.Bool.{true}
 use mathlib.Core.List.{List, [], _∷_, map}
-use mathlib.Core.Path.{_≡_, refl, sym, ap, _∙_, fun-ext}
+use mathlib.Core.Path.{_≡_, refl, _∙_}
 use native.Mathlib.Omega.{arith}
 use lib.ListN.{length}
-use lib.Dec.{eqb}
-use Rattle.iso8211.specs.Record.{endOf}
 use Rattle.iso8211.specs.File.{frameOf, recordAt}
 use Rattle.iso8211.specs.declared.file.Framed.the-variants.{Records}
 use Rattle.iso8211.proofs.Promise.{at-next, record-in}
-use Rattle.items.specs.Identity.{ruinAt, nameOf, placeOf, wordFor, nameAt}
-use Rattle.items.proofs.IdentityLaws.{word-name, word-place}
+use Rattle.items.specs.Identity.{nameOf, placeOf, wordFor}
+use Rattle.items.proofs.IdentityLaws.{word-place}
 use Rattle.names.specs.Names.{firstItem, wordsFrom, nameWords}
 use Rattle.objects.specs.Object.{Object, objectAt}
 use Rattle.held.specs.Chart.{objectName}

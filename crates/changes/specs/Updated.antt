@@ -1,6 +1,5 @@
 -- What an update makes of a chart. Assumes nothing.
-use Prim.Native.Nat.{ℕ, _+_}
-use mathlib.Core.List.{List}
+use Prim.Native.Nat.{_+_}
 use Rattle.objects.specs.Object.{Object}
 use Rattle.header.specs.Dsid.{revised}
 use Rattle.held.specs.Chart.{Header, Chart, objectName}

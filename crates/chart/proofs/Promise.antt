@@ -3,21 +3,19 @@
 use Prim.Native.Nat.{ℕ, zero, suc, _+_, _-_, _≤_, _<_}
 use mathlib.Core.Bool.{Bool, true, false, cond}
 use mathlib.Core.List.{List, []}
-use mathlib.Core.Logic.{⊎-elim, _⊎_, inl, inr}
-use mathlib.Core.Path.{_≡_, refl, sym, ap, _∙_}
-use native.Mathlib.Numerals.{add-one}
+use mathlib.Core.Logic.{⊎-elim, _⊎_}
+use mathlib.Core.Path.{_≡_, refl}
 use native.Mathlib.Omega.{arith}
 use lib.ListN.{length}
 use lib.Dec.{eqb, ltb}
-use borrow.Author.Tests.{eqb-true, eqb-false, ltb-true, ltb-false, eq-eqb, ne-eqb}
-use Rattle.octets.proofs.Cases.{eq-or-ne, true-or-false, le-or-lt}
+use borrow.Author.Tests.{eqb-true, ltb-false, eq-eqb, ne-eqb}
+use Rattle.octets.proofs.Cases.{eq-or-ne, true-or-false}
 use Rattle.iso8211.specs.Record.{endOf}
 use Rattle.iso8211.specs.File.{frameOf, recordAt}
 use Rattle.iso8211.specs.declared.file.Framed.the-variants.{Records}
 use Rattle.iso8211.proofs.Promise.{at-next, last-ends}
 use Rattle.described.specs.Described.{describedOf}
 use Rattle.iso8211.specs.Field.{countAt, fieldAt, FieldsIn}
-use Rattle.iso8211.specs.declared.field.Field.{Field}
 use Rattle.table.specs.Table.{DSSI, DSPM, VRID, FRID}
 use Rattle.values.specs.Dssi.{dssiFault}
 use Rattle.values.specs.Dspm.{dspmFault}
@@ -26,7 +24,7 @@ use Rattle.values.specs.Frid.{fridFault}
 use Rattle.layout.specs.Layout.{layoutFault, start}
 use Rattle.layout.specs.Record.{kindAt, contentAt}
 use Rattle.chart.specs.Value.{fieldFault, seenBefore, seenAfter, valuesFrom, valueFault}
-use Rattle.chart.specs.Read.{refusal, fine, nextStage, isFeature, passedState, firstState, recordsFault, readFault}
+use Rattle.chart.specs.Read.{refusal, nextStage, isFeature, passedState, firstState, recordsFault, readFault}
 use Rattle.chart.specs.declared.read.Refusal.{Refusal}
 use Rattle.chart.specs.declared.read.State.{State}
 

@@ -1,34 +1,29 @@
 -- Laws of the reading of a file's records. Assumes nothing.
 use Prim.Native.Nat.{ℕ, zero, suc, _+_, _-_, _≤_, _<_}
-use mathlib.Core.Bool.{Bool, true, false, not, cond, _&&_, _||_}
-use mathlib.Core.List.{List, [], _∷_}
-use mathlib.Core.Logic.{⊎-elim, _⊎_, inl, inr}
-use mathlib.Core.Path.{_≡_, refl, sym, ap, _∙_}
-use native.Mathlib.Nat.{sub-zero, add-zero}
-use native.Mathlib.Numerals.{add-one}
+use mathlib.Core.Bool.{Bool, true, false, not}
+use mathlib.Core.List.{List, []}
+use mathlib.Core.Path.{_≡_, sym, ap, _∙_}
 use native.Mathlib.Omega.{arith}
-use lib.ListN.{length, take, drop, getD, replicate, length-replicate}
-use lib.Dec.{eqb, leb, ltb}
-use borrow.Author.Tests.{not-true, not-false, eq-eqb, ne-eqb, lt-ltb, le-ltb, eqb-true, eqb-false}
+use lib.ListN.{length, replicate, length-replicate}
+use lib.Dec.{eqb, ltb}
+use borrow.Author.Tests.{not-true, not-false, eq-eqb, ne-eqb, lt-ltb, le-ltb}
 use Rattle.octets.specs.Number.{byteAt}
-use Rattle.octets.proofs.Cases.{true-or-false, eq-or-ne}
 use Rattle.iso8211.specs.Record.{endOf}
-use Rattle.iso8211.specs.Field.{countAt, fieldAt, FramedAt, FieldIn, RecordIn}
-use Rattle.iso8211.specs.File.{frameOf, recordAt}
+use Rattle.iso8211.specs.Field.{countAt, fieldAt, RecordIn}
+use Rattle.iso8211.specs.File.{recordAt}
 use Rattle.iso8211.specs.declared.field.Field.{Field}
-use Rattle.iso8211.specs.declared.file.Framed.the-variants.{Records}
-use Rattle.iso8211.proofs.Promise.{record-in, fields-in, at-next, at-first}
-use Rattle.table.specs.Table.{kindOf, FRID}
+use Rattle.iso8211.proofs.Promise.{fields-in, at-next, at-first}
+use Rattle.table.specs.Table.{kindOf}
 use Rattle.attributes.specs.Attributes.{Upto}
 use Rattle.attributes.proofs.StampLaws.{upto-zeros, upto-more}
 use Rattle.described.specs.Described.{describedOf, marksOf}
 use Rattle.described.specs.declared.marks.Described.{Described}
 use Rattle.layout.specs.Layout.{layoutFault}
-use Rattle.layout.specs.Record.{Laid, contentAt}
+use Rattle.layout.specs.Record.{contentAt}
 use Rattle.layout.proofs.Promise.{laid, laid-dsid, full-dssi, content-length}
 use Rattle.chart.specs.Value.{valueFault}
 use Rattle.chart.specs.Judged.{Full, RecordJudged}
-use Rattle.chart.specs.Read.{refusal, fine, nextStage, isFeature, aallAt, nallAt, passedState, firstState, recordsFault, readFault, Passing}
+use Rattle.chart.specs.Read.{refusal, nextStage, isFeature, aallAt, nallAt, passedState, firstState, recordsFault, readFault, Passing}
 use Rattle.chart.specs.declared.read.Refusal.{Refusal}
 use Rattle.chart.specs.declared.read.State.{State}
 

@@ -1,20 +1,19 @@
 -- Laws of the values of a record: the fault of a field by its kind, and the walk over the fields. Assumes nothing.
 use Prim.Native.Nat.{ℕ, zero, suc, _+_, _-_, _*_, _≤_, _<_}
-use mathlib.Core.Bool.{Bool, true, false, not, cond, _&&_, _||_, or-false}
-use mathlib.Core.List.{List, [], _∷_}
-use mathlib.Core.Logic.{⊎-elim, _⊎_, inl, inr}
+use mathlib.Core.Bool.{Bool, true, false, cond, or-false}
+use mathlib.Core.List.{List, []}
+use mathlib.Core.Logic.{⊎-elim, _⊎_}
 use mathlib.Core.Path.{_≡_, refl, sym, ap, _∙_}
-use native.Mathlib.Nat.{sub-zero, add-zero, mul-le-mul-left}
+use native.Mathlib.Nat.{sub-zero, mul-le-mul-left}
 use Rattle.iso8211.specs.Leader.{lengthDigits, positionDigits}
 use Rattle.iso8211.specs.Directory.{rowWidth}
-use native.Mathlib.Numerals.{add-one}
 use native.Mathlib.Omega.{arith}
-use lib.ListN.{length, take, drop, getD, length-take, length-drop}
-use lib.Dec.{eqb, leb, ltb}
-use borrow.Author.Tests.{eq-eqb, ne-eqb, eqb-true, eqb-false}
-use Rattle.octets.proofs.Cases.{true-or-false, eq-or-ne}
+use lib.ListN.{length, take, drop, length-take, length-drop}
+use lib.Dec.{eqb}
+use borrow.Author.Tests.{eq-eqb, ne-eqb, eqb-true}
+use Rattle.octets.proofs.Cases.{true-or-false}
 use Rattle.iso8211.specs.Record.{endOf}
-use Rattle.iso8211.specs.Field.{countAt, fieldAt, FramedAt, FieldIn, RecordIn}
+use Rattle.iso8211.specs.Field.{countAt, fieldAt, FramedAt, FieldIn}
 use Rattle.iso8211.specs.declared.field.Field.{Field}
 use Rattle.entries.specs.Entries.{Whole}
 use Rattle.table.specs.Table.{table, rowOf, kindOf, DSID, DSSI, DSPM, VRID, ATTV, FRID, ATTF, NATF, FFPT}
@@ -23,12 +22,11 @@ use Rattle.values.specs.Dssi.{dssiFault}
 use Rattle.values.specs.Dspm.{dspmFault}
 use Rattle.values.specs.Vrid.{vridFault}
 use Rattle.values.specs.Frid.{fridFault}
-use Rattle.attributes.specs.Attributes.{attribute, pointer, attributesFault, metAfter, ffptFault, Stamped, Upto}
+use Rattle.attributes.specs.Attributes.{attribute, pointer, ffptFault, Stamped, Upto}
 use Rattle.attributes.specs.Judged.{AttributesJudged}
 use Rattle.attributes.proofs.StampLaws.{stamp-fresh, upto-more}
-use Rattle.layout.specs.Layout.{filled, shapeOf, contentOf, start}
-use Rattle.layout.specs.Record.{kindAt, contentAt}
-use Rattle.layout.proofs.Promise.{full-list, content-length}
+use Rattle.layout.specs.Layout.{filled, contentOf, start}
+use Rattle.layout.proofs.Promise.{full-list}
 use Rattle.chart.specs.Value.{isAttributes, isHigh, fieldFault, seenBefore, seenAfter, valuesFrom, valueFault}
 use Rattle.chart.specs.Judged.{PlainJudged, FieldJudged, Full, RecordJudged}
 

@@ -1,11 +1,11 @@
 -- What judging the values of a field and of a record promises. Assumes nothing.
-use Prim.Native.Nat.{ℕ, _+_, _≤_, _<_}
+use Prim.Native.Nat.{ℕ, _≤_, _<_}
 use mathlib.Core.Bool.{Bool, true}
 use mathlib.Core.List.{List}
 use mathlib.Core.Path.{_≡_}
 use lib.ListN.{length}
 use Rattle.iso8211.specs.Record.{endOf}
-use Rattle.iso8211.specs.Field.{countAt, fieldAt, RecordIn}
+use Rattle.iso8211.specs.Field.{countAt, RecordIn}
 use Rattle.layout.specs.Layout.{filled}
 use Rattle.layout.specs.Record.{kindAt, contentAt}
 use Rattle.attributes.specs.Attributes.{Stamped, Upto}

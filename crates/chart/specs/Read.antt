@@ -1,11 +1,11 @@
 -- The reading of a file's records: layout before values, record by record. Assumes nothing.
-use Prim.Native.Nat.{ℕ, zero, suc, _+_, _-_, _≤_, _<_}
-use mathlib.Core.Bool.{Bool, true, false, cond, _&&_, _||_}
-use mathlib.Core.List.{List, [], _∷_}
+use Prim.Native.Nat.{ℕ, zero, suc, _+_, _-_, _≤_}
+use mathlib.Core.Bool.{Bool, cond}
+use mathlib.Core.List.{List}
 use mathlib.Core.Path.{_≡_}
-use lib.ListN.{length, getD}
-use lib.Dec.{eqb, leb, ltb}
-use Rattle.octets.specs.Number.{byteAt, numAt}
+use lib.ListN.{length}
+use lib.Dec.{eqb, ltb}
+use Rattle.octets.specs.Number.{byteAt}
 use Rattle.iso8211.specs.Record.{endOf}
 use Rattle.iso8211.specs.Field.{countAt, fieldAt, RecordIn}
 use Rattle.iso8211.specs.File.{frameOf, recordAt}

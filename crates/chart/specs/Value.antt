@@ -1,12 +1,9 @@
 -- The values of a record, field by field. Assumes nothing.
-use Prim.Native.Nat.{ℕ, zero, suc, _+_, _-_, _≤_, _<_}
-use mathlib.Core.Bool.{Bool, true, false, cond, _&&_, _||_}
-use mathlib.Core.List.{List, [], _∷_}
-use lib.ListN.{length, take, drop, getD}
-use lib.Dec.{eqb, leb, ltb}
-use Rattle.octets.specs.Number.{byteAt, numAt}
+use Prim.Native.Nat.{ℕ, zero, suc, _+_, _-_}
+use mathlib.Core.Bool.{Bool, cond, _&&_, _||_}
+use mathlib.Core.List.{List, []}
+use lib.Dec.{eqb}
 use Rattle.iso8211.specs.Field.{countAt, fieldAt}
-use Rattle.iso8211.specs.declared.field.Field.{Field}
 use Rattle.table.specs.Table.{kindOf, DSID, DSSI, DSPM, VRID, ATTV, FRID, ATTF, NATF, FFPT}
 use Rattle.layout.specs.Layout.{contentOf, start}
 use Rattle.dataset.specs.Dsid.{dsidFault}

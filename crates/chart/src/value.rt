@@ -3,7 +3,6 @@ ghost use Prim.Native.Nat.{_+_, _≤_};
 ghost use mathlib.Core.Bool.{true, false, cond};
 ghost use mathlib.Core.Path.{_≡_};
 ghost use lib.ListN.{length};
-ghost use Rattle.iso8211.specs.Field.{countAt};
 ghost use Rattle.layout.specs.Layout.{filled};
 ghost use Rattle.chart.specs.Value.{isAttributes};
 ghost use Rattle.chart.specs.Judged.{PlainJudged, FieldJudged, Full, RecordJudged};

@@ -5,12 +5,11 @@ use mathlib.Core.List.{List}
 use mathlib.Core.Path.{_≡_}
 use native.Mathlib.Omega.{arith}
 use lib.ListN.{length}
-use lib.Dec.{leb, eqb}
-use borrow.Author.Tests.{leb-true, eqb-true}
-use Rattle.octets.specs.Number.{byteAt, numAt}
+use lib.Dec.{leb}
+use borrow.Author.Tests.{leb-true}
 use Rattle.octets.specs.Digits.{numberAt}
 use Rattle.octets.proofs.Tests.{both, all3}
-use Rattle.values.specs.Rule.{within, rcidGood, digitsWithin}
+use Rattle.values.specs.Rule.{within, digitsWithin}
 use Rattle.values.proofs.FaultLaws.{fault-none, first-none, fault-within, first-within}
 use Rattle.values.proofs.Promise.{within-told}
 use Rattle.dataset.specs.Date.{dateGood}

@@ -1,6 +1,6 @@
 -- DSID as a value: what it says, and how the held form writes it. Assumes nothing.
 use Prim.Native.Nat.{ℕ, _+_, _-_}
-use mathlib.Core.List.{List, [], _∷_, _++_}
+use mathlib.Core.List.{List, _∷_, _++_}
 use lib.ListN.{take, drop}
 use Rattle.octets.specs.Digits.{numberAt, digitsOf, fewest}
 use Rattle.dataset.specs.Dsid.{dsnmEnd, edtnEnd, updnEnd}

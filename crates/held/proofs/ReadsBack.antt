@@ -1,5 +1,5 @@
 -- The records of DSID and DSPM, written and read back; then the whole chart: what is written for a chart means that chart. Assumes nothing.
-use Prim.Native.Nat.{ℕ, zero, suc, _+_, _-_, _≤_}
+use Prim.Native.Nat.{ℕ, suc, _+_, _-_, _≤_}
 use mathlib.Core.Bool.{Bool, true, false, cond}
 use mathlib.Core.List.{List, [], _∷_}
 use mathlib.Core.Path.{_≡_, refl, sym, ap, _∙_}
@@ -14,7 +14,6 @@ use Rattle.iso8211.specs.declared.file.Framed.the-variants.{Records}
 use Rattle.iso8211.proofs.RecordLaws.{record-framed}
 use Rattle.table.specs.Table.{rowOf, table, tagOf, kindOf, among, asNumber, first, DSID, DSSI, DSPM}
 use Rattle.table.specs.Text.{bytes}
-use Rattle.values.specs.Fault as fault
 use Rattle.values.specs.Class.{isGeo, isMeta, isCollection}
 use Rattle.layout.specs.Layout.{opens, follows, placed, mayEnd, filled, start}
 use Rattle.layout.specs.Record.{contentAt}

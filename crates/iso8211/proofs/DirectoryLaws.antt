@@ -1,18 +1,17 @@
 -- Laws of rows and of the walk that judges their fields: its equations, and one law for each way through a turn. Assumes nothing.
 use Prim.Native.Nat.{ℕ, zero, suc, _+_, _-_, _*_, _/_, _≤_, _<_}
-use mathlib.Core.Bool.{Bool, true, false, _&&_}
+use mathlib.Core.Bool.{false, _&&_}
 use mathlib.Core.List.{List, [], _∷_, _++_}
 use mathlib.Core.Path.{_≡_, refl, sym, ap, _∙_}
-use native.Mathlib.Nat.{add-zero, zero-add, add-assoc, suc-mul, sub-zero, mul-le-mul-right}
+use native.Mathlib.Nat.{add-zero, zero-add, add-assoc, suc-mul, mul-le-mul-right}
 use native.Mathlib.Numerals.{add-one}
 use native.Mathlib.Omega.{arith}
-use lib.ListN.{length, take, drop, getD, set, length-set, length-take, drop-of-length-le}
-use lib.Seq.{drop-cons, getD-take, take-suc-set, length-take-le, take-length}
+use lib.ListN.{length, take, drop, getD, set, length-take, drop-of-length-le}
+use lib.Seq.{drop-cons, getD-take, take-suc-set, length-take-le}
 use lib.Dec.{leb, eqb}
 use borrow.Author.Tests.{le-leb, lt-leb, eq-eqb, ne-eqb}
 use Rattle.octets.specs.Number.{byteAt}
-use Rattle.octets.specs.Digits.{numberAt, Number}
-use Rattle.octets.proofs.Tests.{tests}
+use Rattle.octets.specs.Digits.{Number}
 use Rattle.iso8211.specs.Directory.{tagAt, rowAt, rowWidth, rows, len, position}
 use Rattle.iso8211.specs.Record.{fieldGood, inRow, onward, StepWithin, RowStep, BatchStep}
 use Rattle.iso8211.specs.Leader.{baseAt, lengthDigits, positionDigits}

@@ -5,16 +5,13 @@ use mathlib.Core.Bool.{Bool, true, false, cond}
 use mathlib.Core.List.{List}
 use mathlib.Core.Logic.{⊎-elim, _⊎_, inl, inr}
 use mathlib.Core.Path.{_≡_, refl, sym, ap, _∙_}
-use native.Mathlib.Numerals.{add-one}
 use native.Mathlib.Omega.{arith}
 use lib.ListN.{length}
 use lib.Dec.{eqb}
-use borrow.Author.Tests.{eq-eqb, ne-eqb, eqb-true, eqb-false}
+use borrow.Author.Tests.{eq-eqb, ne-eqb}
 use Rattle.octets.proofs.Cases.{true-or-false}
-use Rattle.iso8211.specs.Leader.{sizeAt}
 use Rattle.iso8211.specs.Record.{recordGood, endOf, goodEnd}
-use Rattle.iso8211.specs.Field.{FramedAt}
-use Rattle.iso8211.specs.File.{framedFrom, frameOf, recordAt}
+use Rattle.iso8211.specs.File.{framedFrom, frameOf}
 use Rattle.iso8211.specs.declared.file.Framed.{Framed}
 use Rattle.iso8211.specs.declared.file.Framed.the-variants.{Records, Broken}
 use Rattle.iso8211.proofs.RecordLaws.{record-framed}

@@ -1,18 +1,18 @@
 -- Laws of records: the walk over the batches of a directory, what a good record tells. Assumes nothing.
-use Prim.Native.Nat.{ℕ, zero, suc, _+_, _-_, _*_, _/_, _%_, _≤_, _<_, min}
-use mathlib.Core.Bool.{Bool, true, false, not, cond, _&&_}
-use mathlib.Core.List.{List, [], _∷_, _++_}
+use Prim.Native.Nat.{ℕ, _+_, _-_, _*_, _/_, _%_, _≤_}
+use mathlib.Core.Bool.{Bool, true, false, not, _&&_}
+use mathlib.Core.List.{List, _++_}
 use mathlib.Core.Path.{_≡_, refl, sym, ap, _∙_}
-use native.Mathlib.Nat.{mul-le-mul-right, suc-mul, add-mul, add-sub-of-le, div-add-mod', le-div-iff-mul-le}
+use native.Mathlib.Nat.{mul-le-mul-right, add-mul, add-sub-of-le, div-add-mod', le-div-iff-mul-le}
 use native.Mathlib.Omega.{arith}
 use lib.ListN.{length, take}
 use lib.Dec.{leb, eqb}
-use borrow.Author.Tests.{le-leb, lt-leb, eq-eqb, ne-eqb, leb-true, eqb-true}
+use borrow.Author.Tests.{leb-true, eqb-true}
 use Rattle.octets.specs.Number.{byteAt}
 use Rattle.octets.proofs.Tests.{told-no, told-yes, both, all3, all4}
 use Rattle.iso8211.specs.Leader.{sizeAt, baseAt, lengthDigits, positionDigits, kindGood, sizeGood, leaderGood}
 use Rattle.iso8211.specs.Directory.{rowWidth, rows}
-use Rattle.iso8211.specs.Record.{inRow, onward, StepWithin, BatchStep, bodyGood, recordGood, goodEnd, endOf, Led}
+use Rattle.iso8211.specs.Record.{inRow, onward, StepWithin, BatchStep, bodyGood, recordGood, goodEnd, Led}
 use Rattle.iso8211.specs.Field.{countAt, directoryAt, FramedAt}
 use Rattle.iso8211.specs.declared.directory.Step.{Step}
 use Rattle.iso8211.specs.declared.directory.Step.the-variants.{On, Bad}

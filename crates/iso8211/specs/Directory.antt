@@ -1,5 +1,5 @@
 -- The directory of a record: a list of rows of three numbers, tag, length and position. Assumes nothing.
-use Prim.Native.Nat.{ℕ, zero, suc, _+_, _*_, _/_, _-_}
+use Prim.Native.Nat.{ℕ, zero, suc, _+_, _*_}
 use mathlib.Core.List.{List, [], _∷_}
 use lib.ListN.{getD}
 use Rattle.octets.specs.Number.{byteAt}

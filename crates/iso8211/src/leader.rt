@@ -3,7 +3,6 @@ ghost use Prim.Native.Nat.{_+_, _≤_};
 ghost use mathlib.Core.Path.{_≡_};
 ghost use lib.ListN.{length};
 ghost use Rattle.iso8211.specs.Leader.{kindGood, sizeGood, leaderGood};
-use octets::number::wide;
 
 // Whether the record is of the kind due here: record 0 descriptive, all others data.
 fn kind_good(s: &[u8], at: usize, first: bool) -> bool

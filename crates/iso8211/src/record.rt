@@ -4,7 +4,7 @@ ghost use mathlib.Core.Path.{_≡_};
 ghost use lib.ListN.{length};
 ghost use Rattle.octets.specs.Number.{byteAt};
 ghost use Rattle.iso8211.specs.Directory.{rowWidth, rows};
-ghost use Rattle.iso8211.specs.Record.{inRow, bodyGood, goodEnd, Led};
+ghost use Rattle.iso8211.specs.Record.{inRow, bodyGood, goodEnd};
 use crate::directory::Step;
 use crate::directory::batch;
 use crate::directory::judged;

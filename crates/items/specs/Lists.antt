@@ -4,7 +4,7 @@ use mathlib.Core.Bool.{true, cond}
 use mathlib.Core.List.{List, [], _++_}
 use mathlib.Core.Path.{_≡_}
 use lib.Dec.{eqb}
-use Rattle.iso8211.specs.Field.{countAt, fieldAt, HeadOf, FieldsIn}
+use Rattle.iso8211.specs.Field.{countAt, HeadOf, FieldsIn}
 use Rattle.iso8211.specs.declared.field.Head.{Head}
 use Rattle.entries.specs.Entries.{entriesOf}
 use Rattle.table.specs.Table.{rowOf}

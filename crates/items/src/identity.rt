@@ -2,7 +2,7 @@
 ghost use Prim.Native.Nat.{_≤_, _<_};
 ghost use mathlib.Core.Path.{_≡_};
 ghost use lib.ListN.{length};
-ghost use Rattle.iso8211.specs.Field.{countAt, HeadOf};
+ghost use Rattle.iso8211.specs.Field.{HeadOf};
 ghost use Rattle.items.specs.Lists.{LaidOut};
 ghost use Rattle.items.specs.Identity.{idAt, rcnmAt, rcidAt, primAt, objlAt, foidAt, rankOf, versionAt, ruinAt, nameAt, wordFor, Identified, Featured};
 use iso8211::field::Head;

@@ -17,8 +17,6 @@ use Rattle.iso8211.specs.Leader.{baseAt, lengthDigits, positionDigits}
 use Rattle.iso8211.specs.Directory.{rowWidth}
 use Rattle.iso8211.specs.Record.{endOf}
 use Rattle.iso8211.specs.Field.{countAt, fieldAt, FramedAt, RecordIn, FieldsIn}
-use Rattle.iso8211.specs.File.{frameOf, recordAt}
-use Rattle.iso8211.specs.declared.file.Framed.the-variants.{Records}
 use Rattle.entries.specs.Entries.{Whole, entriesOf}
 use Rattle.entries.proofs.EntriesLaws.{whole-good}
 use Rattle.dataset.specs.Dsid.{DsidLaid}

@@ -4,7 +4,7 @@ use mathlib.Core.Bool.{Bool, true}
 use mathlib.Core.List.{List}
 use mathlib.Core.Path.{_≡_}
 use lib.ListN.{getD}
-use Rattle.iso8211.specs.Field.{countAt, fieldAt, FramedAt, FieldIn}
+use Rattle.iso8211.specs.Field.{countAt, fieldAt}
 use Rattle.table.specs.Table.{kindOf, first}
 use Rattle.layout.specs.Layout.{opens, follows, mayEnd, contentOf, filled}
 

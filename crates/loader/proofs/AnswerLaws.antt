@@ -1,6 +1,6 @@
 -- Laws of the answer of 16 bytes. Assumes nothing.
 use Prim.Native.Nat.{ℕ, _+_, _/_, _%_, _≤_}
-use mathlib.Core.List.{List, [], _∷_, append-nil}
+use mathlib.Core.List.{List, [], append-nil}
 use mathlib.Core.Path.{_≡_, refl, ap, _∙_}
 use native.Mathlib.Omega.{arith}
 use lib.ListN.{length, drop, drop-of-length-le}

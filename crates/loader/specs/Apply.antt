@@ -4,7 +4,7 @@ use mathlib.Core.Bool.{cond}
 use mathlib.Core.List.{List}
 use lib.ListN.{length}
 use lib.Dec.{eqb}
-use Rattle.reader.specs.Reader.{answer, filed, firstRefusal, frontOf, workAnswer, cellFault, updateFault}
+use Rattle.reader.specs.Reader.{filed, firstRefusal, frontOf, workAnswer, cellFault, updateFault}
 use Rattle.reader.specs.declared.answer.Answer.{Answer}
 use Rattle.reader.specs.declared.front.Front.{Front}
 use Rattle.reader.specs.declared.front.Front.the-variants.{Count, Refused}

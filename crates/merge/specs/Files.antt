@@ -9,7 +9,6 @@ use Rattle.words.specs.Words.{wordsIn}
 use Rattle.words.specs.Order.{sorted}
 use Rattle.items.specs.Identity.{ruinAt, nameOf, placeOf}
 use Rattle.names.specs.Names.{firstItem, nameWords, twiceOf, Readable}
-use Rattle.names.specs.declared.twice.Repeat.{Repeat}
 use Rattle.merge.specs.Update.{Change}
 use Rattle.merge.specs.Words.{marked}
 

@@ -1,6 +1,6 @@
 -- Laws of the words' walk as `collect` and `order` take it: the words so far are the walk so far. Assumes nothing.
-use Prim.Native.Nat.{ℕ, zero, suc, _+_, _-_, _*_, _^_, _≤_, _<_}
-use mathlib.Core.Bool.{Bool, true, false}
+use Prim.Native.Nat.{ℕ, zero, _+_, _-_, _*_, _^_, _≤_, _<_}
+use mathlib.Core.Bool.{Bool}
 use mathlib.Core.List.{List, [], _∷_, _++_}
 use mathlib.Core.Path.{_≡_, refl, sym, ap, _∙_}
 use native.Mathlib.Nat.{add-zero, zero-add}
@@ -9,7 +9,7 @@ use lib.ListN.{length, drop}
 use lib.Seq.{drop-drop}
 use Rattle.iso8211.specs.Record.{endOf}
 use Rattle.iso8211.specs.Field.{FramedAt}
-use Rattle.iso8211.specs.File.{frameOf, recordAt}
+use Rattle.iso8211.specs.File.{recordAt}
 use Rattle.iso8211.proofs.Promise.{framed-at, at-on}
 use Rattle.words.specs.Words.{wordsIn, putAt}
 use Rattle.words.specs.Order.{sorted, Sorts}

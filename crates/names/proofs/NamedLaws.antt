@@ -1,20 +1,18 @@
 -- The look-up of a name among the sorted words of a file's records: what it answers is one of the records that have the name, and
 -- nothing just where none has. Assumes nothing.
-use Prim.Native.Nat.{ℕ, zero, suc, _+_, _-_, _≤_, _<_}
+use Prim.Native.Nat.{ℕ, _+_, _-_, _≤_, _<_}
 use mathlib.Core.Bool.{Bool, true}
 use mathlib.Core.List.{List}
 use mathlib.Core.Logic.{_⊎_, ⊎-elim}
 use mathlib.Core.Path.{_≡_, refl, sym, ap, _∙_}
-use native.Mathlib.Nat.{add-zero, add-suc, suc-add}
 use native.Mathlib.Omega.{arith}
 use lib.ListN.{length, getD}
-use Rattle.iso8211.specs.Record.{endOf}
 use Rattle.iso8211.specs.File.{recordAt}
 use Rattle.words.specs.Order.{sorted, isIn}
 use Rattle.words.proofs.OrderLaws.{sorted-member, member-at, member-place}
 use Rattle.items.specs.Identity.{nameAt, wordFor, nameOf, placeOf}
 use Rattle.items.proofs.IdentityLaws.{word-name, word-place}
-use Rattle.names.specs.Names.{firstItem, wordsFrom, nameWords, Readable}
+use Rattle.names.specs.Names.{firstItem, nameWords, Readable}
 use Rattle.names.specs.Lookup.{lookup, foundCode}
 use Rattle.names.specs.declared.lookup.Found.the-variants.{At, Nothing}
 use Rattle.names.proofs.NamesLaws.{from-length, from-at}

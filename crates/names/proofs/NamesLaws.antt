@@ -1,20 +1,16 @@
 -- Laws of name words: those of a file's records one by one; their places ascend. Assumes nothing.
-use Prim.Native.Nat.{ℕ, zero, suc, _+_, _-_, _*_, _^_, _≤_, _<_}
-use mathlib.Core.Bool.{Bool, true, false, cond}
+use Prim.Native.Nat.{ℕ, zero, suc, _+_, _-_, _<_}
+use mathlib.Core.Bool.{Bool}
 use mathlib.Core.List.{List, [], _∷_, _++_}
-use mathlib.Core.Path.{_≡_, refl, sym, ap, _∙_}
-use native.Mathlib.Nat.{add-zero, add-suc, suc-add, le-refl}
-use native.Mathlib.Numerals.{add-one}
+use mathlib.Core.Path.{_≡_, refl, ap, _∙_}
+use native.Mathlib.Nat.{add-zero, suc-add}
 use native.Mathlib.Omega.{arith}
 use lib.ListN.{length, getD}
 use Rattle.octets.specs.Number.{byteAt, numAt}
 use Rattle.iso8211.specs.Record.{endOf}
-use Rattle.iso8211.specs.Field.{FramedAt}
-use Rattle.iso8211.specs.File.{frameOf, recordAt}
-use Rattle.iso8211.specs.declared.file.Framed.the-variants.{Records}
-use Rattle.iso8211.proofs.Promise.{framed-at, at-next}
-use Rattle.items.specs.Lists.{LaidOut}
-use Rattle.items.specs.Identity.{idAt, rcidAt, nameAt, wordFor, nameOf, placeOf, Identified}
+use Rattle.iso8211.specs.File.{recordAt}
+use Rattle.iso8211.proofs.Promise.{at-next}
+use Rattle.items.specs.Identity.{idAt, rcidAt, nameAt, wordFor, nameOf, placeOf}
 use Rattle.items.proofs.IdentityLaws.{word-name, word-place, word-small}
 use Rattle.names.specs.Names.{firstItem, wordsFrom, nameWords, Readable, Ascending}
 use Rattle.names.proofs.WalkLaws.{at-order, at-inside}

@@ -1,18 +1,18 @@
 -- Laws of repeats among words in held order: of words whose places ascend in the file, `leastRepeat` of them sorted is the place of the
 -- first repeat, and there is none just if no two neighbours have one name. Assumes nothing.
 use Prim.Native.Nat.{ℕ, zero, suc, _+_, _-_, _≤_, _<_}
-use mathlib.Core.Bool.{Bool, true, false}
+use mathlib.Core.Bool.{true}
 use mathlib.Core.List.{List, [], _∷_}
 use mathlib.Core.Logic.{_⊎_, inl, inr, ⊎-elim}
-use mathlib.Core.Path.{_≡_, refl, sym, ap, _∙_}
+use mathlib.Core.Path.{_≡_, refl, sym, _∙_}
 use native.Mathlib.Nat.{le-refl}
 use native.Mathlib.Omega.{arith}
 use lib.ListN.{length, getD}
 use lib.Dec.{eqb, leb}
 use borrow.Author.Tests.{le-leb, lt-leb, eq-eqb, ne-eqb}
-use Rattle.octets.proofs.Cases.{true-or-false, le-or-lt, eq-or-ne}
-use Rattle.words.specs.Order.{insert, sorted, isIn}
-use Rattle.words.proofs.OrderLaws.{insert-here, insert-later, sorted-length, sorted-member, sorted-in-order, member-at, member-place}
+use Rattle.octets.proofs.Cases.{le-or-lt, eq-or-ne}
+use Rattle.words.specs.Order.{insert, sorted}
+use Rattle.words.proofs.OrderLaws.{insert-here, insert-later, sorted-member, sorted-in-order, member-at, member-place}
 use Rattle.items.specs.Identity.{nameOf, placeOf}
 use Rattle.names.specs.Names.{twiceFrom, Ascending}
 use Rattle.names.specs.Neighbours.{lower, leastFrom, leastRepeat}

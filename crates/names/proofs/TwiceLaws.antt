@@ -1,19 +1,17 @@
 -- Laws of the pass over the sorted words, and of its answer as `twice` takes it. Assumes nothing.
-use Prim.Native.Nat.{ℕ, zero, suc, _+_, _-_, _≤_, _<_}
+use Prim.Native.Nat.{ℕ, suc, _+_, _-_, _≤_, _<_}
 use mathlib.Core.Bool.{Bool}
-use mathlib.Core.List.{List, [], _∷_}
+use mathlib.Core.List.{List, []}
 use mathlib.Core.Logic.{_⊎_, ⊎-elim}
-use mathlib.Core.Path.{_≡_, refl, sym, ap, _∙_}
+use mathlib.Core.Path.{_≡_, sym, ap, _∙_}
 use native.Mathlib.Numerals.{add-one}
 use native.Mathlib.Omega.{arith}
-use lib.ListN.{length, getD}
+use lib.ListN.{length}
 use Rattle.iso8211.specs.File.{recordAt}
 use Rattle.words.specs.Words.{wordAt, wordsIn}
 use Rattle.words.specs.Order.{sorted}
-use Rattle.items.specs.Identity.{placeOf}
 use Rattle.names.specs.Names.{firstItem, nameWords, twiceFrom, twiceOf, Readable}
 use Rattle.names.specs.Neighbours.{lower, leastFrom, leastRepeat}
-use Rattle.names.specs.declared.twice.Repeat.{Repeat}
 use Rattle.names.proofs.WalkLaws.{at-inside}
 use Rattle.names.proofs.NamesLaws.{names-length, names-place, ascending}
 use Rattle.names.proofs.NeighboursLaws.{First, twice-least}

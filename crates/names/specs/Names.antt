@@ -1,13 +1,12 @@
 -- The names of a file's vectors and features: their words in the file's order, and the first name that is met twice. Assumes nothing.
-use Prim.Native.Nat.{ℕ, zero, suc, _+_, _-_, _*_, _≤_, _<_}
-use mathlib.Core.Bool.{Bool, true, false, cond}
+use Prim.Native.Nat.{ℕ, zero, suc, _+_, _-_, _≤_, _<_}
+use mathlib.Core.Bool.{Bool, cond}
 use mathlib.Core.List.{List, [], _∷_}
 use mathlib.Core.Path.{_≡_}
 use lib.ListN.{length, getD}
 use Rattle.iso8211.specs.Record.{endOf}
 use Rattle.iso8211.specs.File.{frameOf, recordAt}
-use Rattle.iso8211.specs.declared.file.Framed.{Framed}
-use Rattle.iso8211.specs.declared.file.Framed.the-variants.{Records, Broken}
+use Rattle.iso8211.specs.declared.file.Framed.the-variants.{Records}
 use Rattle.words.specs.Order.{isIn}
 use Rattle.items.specs.Lists.{LaidOut}
 use Rattle.items.specs.Identity.{Identified, wordFor, nameOf, placeOf}

@@ -3,15 +3,13 @@
 use Prim.Native.Nat.{ℕ, zero, suc, _+_, _-_, _≤_, _<_}
 use mathlib.Core.List.{List, [], _∷_, _++_, append-assoc, append-nil}
 use mathlib.Core.Path.{_≡_, refl, sym, ap, _∙_}
-use mathlib.Core.Logic.{⊎-elim}
 use native.Mathlib.Nat.{add-zero, add-suc, suc-add, add-assoc}
 use native.Mathlib.Numerals.{add-one}
 use native.Mathlib.Omega.{arith}
-use lib.ListN.{length, take, drop, getD, set, replicate, length-append, length-take, length-drop, drop-of-length-le, List·getD-append}
-use lib.Seq.{sets, set-comm, drop-length, drop-cons, length-sets, sets-eq, getD-append-add, ext-getD, getD-take, getD-drop, take-at, drop-at, set-append-seam, length-take-le}
+use lib.ListN.{length, take, drop, getD, set, replicate, length-append, length-drop, drop-of-length-le, List·getD-append}
+use lib.Seq.{sets, set-comm, drop-length, drop-cons, length-sets, sets-eq, getD-append-add, ext-getD, getD-take, getD-drop, take-at, drop-at, length-take-le}
 use Rattle.octets.specs.Number.{byteAt}
 use Rattle.octets.specs.Area.{Has, Wrote, Going}
-use Rattle.octets.proofs.Cases.{le-or-lt}
 
 -- ---- Has
 pub has-mid : (a xs b : List ℕ) → Has (a ++ (xs ++ b)) (length a) xs

@@ -1,10 +1,10 @@
 -- Laws of decimal digits. Assumes nothing.
 use Prim.Native.Nat.{ℕ, zero, suc, _+_, _-_, _*_, _/_, _%_, _^_, _≤_, _<_}
 use mathlib.Core.Bool.{true, false}
-use mathlib.Core.List.{List, [], _∷_, _++_}
+use mathlib.Core.List.{List, _∷_}
 use mathlib.Core.Path.{_≡_, refl, sym, ap, _∙_}
 use mathlib.Core.Logic.{⊎-elim}
-use native.Mathlib.Nat.{add-zero, sub-zero, add-assoc, mul-assoc, mul-comm, mul-zero, zero-add, pow-suc, pow-succ', pow-le-pow-right, mul-le-mul-right, mod-one, mod-lt, mod-eq-of-lt, mod-add-div, div-add-mod', div-div-eq-div-mul, add-mul, mul-add, one-le-pow, div-lt-iff-lt-mul, div-one, mod-mod}
+use native.Mathlib.Nat.{add-zero, sub-zero, add-assoc, mul-assoc, mul-comm, pow-suc, pow-le-pow-right, mul-le-mul-right, mod-one, mod-lt, mod-eq-of-lt, div-add-mod', div-div-eq-div-mul, add-mul, one-le-pow, div-lt-iff-lt-mul}
 use native.Mathlib.Numerals.{add-one}
 use native.Mathlib.Omega.{arith}
 use lib.ListN.{length, set}

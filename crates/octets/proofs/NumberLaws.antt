@@ -1,12 +1,12 @@
 -- Laws of numbers in bytes, over the width: two numbers side by side are one of both widths, read (`reads-join`) and written
 -- (`bytes-join`); what is written reads back (`num-read`). Assumes nothing.
 use Prim.Native.Nat.{ℕ, zero, suc, _+_, _*_, _/_, _%_, _^_, _≤_, _<_}
-use mathlib.Core.List.{List, [], _∷_, _++_, append-nil}
+use mathlib.Core.List.{List, _++_, append-nil}
 use mathlib.Core.Path.{_≡_, refl, sym, ap, _∙_}
-use native.Mathlib.Nat.{add-zero, zero-add, suc-add, add-suc, add-assoc, mul-assoc, mul-comm, mul-add, mul-zero, pow-zero, pow-succ', pow-suc, div-one, div-div-eq-div-mul, mod-add-div, mod-eq-of-lt, mod-lt, div-lt-iff-lt-mul, mul-add-mod-self-left, mul-add-div, add-mul-mod-self-left, add-mul-div-left, div-eq-of-lt, mul-le-mul-left, one-le-pow}
+use native.Mathlib.Nat.{add-zero, zero-add, suc-add, add-suc, add-assoc, mul-assoc, mul-add, pow-succ', pow-suc, div-one, div-div-eq-div-mul, mod-add-div, mod-eq-of-lt, mod-lt, div-lt-iff-lt-mul, add-mul-mod-self-left, add-mul-div-left, div-eq-of-lt, mul-le-mul-left, one-le-pow}
 use native.Mathlib.Numerals.{add-one}
 use native.Mathlib.Omega.{arith}
-use lib.ListN.{length, getD, set}
+use lib.ListN.{length, set}
 use Rattle.octets.specs.Number.{byteAt, numAt, bytesOf, Reads}
 use Rattle.octets.specs.Area.{Has, Wrote}
 use Rattle.octets.proofs.AreaLaws.{has-head, has-tail, wrote-as, wrote-join}

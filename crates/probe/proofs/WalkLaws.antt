@@ -5,10 +5,8 @@ use mathlib.Core.Path.{_≡_}
 use native.Mathlib.Omega.{arith}
 use lib.ListN.{length}
 use Rattle.iso8211.specs.Field.{fieldAt, HeadOf, RecordIn}
-use Rattle.iso8211.specs.File.{frameOf, recordAt}
 use Rattle.iso8211.specs.declared.field.Field.{Field}
 use Rattle.iso8211.specs.declared.field.Head.{Head}
-use Rattle.iso8211.specs.declared.file.Framed.the-variants.{Records}
 
 -- a field ends within the file
 pub field-ends : (s : List ℕ) (at k : ℕ) (h : Head) (f : Field) → RecordIn s at → HeadOf s at h → k < h .count → f ≡ fieldAt s at k → f .start + f .length ≤ length s

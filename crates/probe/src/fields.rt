@@ -1,6 +1,6 @@
 // A sum over the records and fields of a framed file, which changes with each number and with their
 // order.
-ghost use Prim.Native.Nat.{_+_, _*_, _^_, _≤_, _<_};
+ghost use Prim.Native.Nat.{_+_, _*_, _<_};
 ghost use mathlib.Core.Path.{_≡_};
 ghost use Rattle.iso8211.specs.File.{frameOf};
 ghost use Rattle.iso8211.specs.declared.file.Framed.the-variants.{Records};

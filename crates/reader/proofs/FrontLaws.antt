@@ -3,12 +3,11 @@ use Prim.Native.Nat.{ℕ, zero, suc, _+_, _-_, _≤_, _<_}
 use mathlib.Core.Bool.{Bool, true, false, cond}
 use mathlib.Core.List.{List}
 use mathlib.Core.Logic.{⊎-elim, _⊎_, inl, inr}
-use mathlib.Core.Path.{_≡_, refl, sym, ap, _∙_}
-use native.Mathlib.Numerals.{add-one}
+use mathlib.Core.Path.{_≡_, refl, sym, _∙_}
 use native.Mathlib.Omega.{arith}
 use lib.ListN.{length}
 use lib.Dec.{eqb, ltb}
-use borrow.Author.Tests.{eq-eqb, ne-eqb, lt-ltb, le-ltb}
+use borrow.Author.Tests.{ne-eqb, lt-ltb, le-ltb}
 use Rattle.octets.proofs.Cases.{eq-or-ne}
 use Rattle.iso8211.specs.Record.{recordGood, endOf}
 use Rattle.iso8211.specs.Field.{FramedAt}
@@ -20,7 +19,6 @@ use Rattle.iso8211.proofs.Promise.{at-next}
 use Rattle.chart.specs.declared.read.Refusal.{Refusal}
 use Rattle.reader.specs.Reader.{answer, filed, framedFront, frontOf, Before}
 use Rattle.reader.specs.declared.answer.Answer.{Answer}
-use Rattle.reader.specs.declared.front.Front.{Front}
 use Rattle.reader.specs.declared.front.Front.the-variants.{Count, Refused}
 
 -- ---- filed

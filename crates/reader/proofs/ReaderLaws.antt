@@ -1,38 +1,36 @@
 -- Laws of reading whole: what a file without a refusal of codes 4 to 6 gives to those who read its names and counts, and the answers in
 -- order. Assumes nothing.
-use Prim.Native.Nat.{ℕ, zero, suc, _+_, _-_, _*_, _≤_, _<_}
-use mathlib.Core.Bool.{Bool, true, false, not, cond, _||_}
+use Prim.Native.Nat.{ℕ, zero, suc, _+_, _-_, _≤_, _<_}
+use mathlib.Core.Bool.{Bool, true, false, not, _||_}
 use mathlib.Core.List.{List}
 use mathlib.Core.Logic.{⊎-elim, _⊎_, inl, inr}
 use mathlib.Core.Path.{_≡_, refl, sym, ap, _∙_}
 use native.Mathlib.Nat.{add-zero}
 use native.Mathlib.Omega.{arith}
-use lib.ListN.{length, take, drop}
-use lib.Dec.{eqb, ltb}
-use borrow.Author.Tests.{eq-eqb, ne-eqb, eqb-true, lt-ltb, le-ltb, not-true, not-false}
+use lib.ListN.{length}
+use lib.Dec.{eqb}
+use borrow.Author.Tests.{eq-eqb, ne-eqb, eqb-true}
 use Rattle.octets.specs.Number.{byteAt, numAt}
-use Rattle.octets.proofs.Cases.{eq-or-ne, le-or-lt}
+use Rattle.octets.proofs.Cases.{eq-or-ne}
 use Rattle.octets.proofs.Tests.{told-no, told-yes}
 use Rattle.iso8211.specs.Record.{endOf}
-use Rattle.iso8211.specs.Field.{countAt, fieldAt, FramedAt, FieldIn, RecordIn}
+use Rattle.iso8211.specs.Field.{fieldAt, RecordIn}
 use Rattle.iso8211.specs.File.{frameOf, recordAt}
-use Rattle.iso8211.specs.declared.field.Field.{Field}
 use Rattle.iso8211.specs.declared.file.Framed.the-variants.{Records}
-use Rattle.iso8211.proofs.Promise.{record-in, fields-in, at-next, at-first, last-ends}
-use Rattle.table.specs.Table.{kindOf, VRID, FRID, DSSI, DSPM}
+use Rattle.iso8211.proofs.Promise.{record-in, fields-in, at-next, at-first}
+use Rattle.table.specs.Table.{VRID, FRID, DSPM}
 use Rattle.attributes.proofs.PartLaws.{part-byte, part-number}
 use Rattle.values.specs.Vrid.{isVector}
 use Rattle.values.proofs.Promise.{vrid-good, frid-good, dspm-good}
 use Rattle.described.specs.Described.{describedOf}
-use Rattle.layout.specs.Layout.{contentOf}
 use Rattle.layout.specs.Record.{Laid, kindAt, contentAt}
-use Rattle.layout.proofs.Promise.{laid, laid-item, laid-late, laid-dsid, laid-dspm, full-vrid, full-frid, full-dssi, full-dspm, content-length}
+use Rattle.layout.proofs.Promise.{laid, laid-item, laid-late, laid-dspm, full-vrid, full-frid, full-dspm, content-length}
 use Rattle.items.specs.Lists.{LaidOut}
 use Rattle.items.specs.Identity.{Identified, rcnmAt, idAt}
 use Rattle.items.proofs.Promise.{laid-record, laid-featured, vector-identified, feature-identified}
 use Rattle.chart.specs.Read.{refusal, fine, readFault}
 use Rattle.chart.specs.declared.read.Refusal.{Refusal}
-use Rattle.chart.proofs.Promise.{Here, Good, StageAt, Fair, good-records, fair, fair-vrid, fair-frid, fair-dspm}
+use Rattle.chart.proofs.Promise.{Here, Fair, good-records, fair, fair-vrid, fair-frid, fair-dspm}
 use Rattle.words.specs.Words.{wordsIn}
 use Rattle.words.specs.Order.{sorted}
 use Rattle.names.specs.Names.{firstItem, nameWords, Readable, twiceOf}

@@ -3,7 +3,6 @@ ghost use Prim.Native.Nat.{_-_, _*_, _≤_};
 ghost use mathlib.Core.Bool.{true, false};
 ghost use mathlib.Core.Path.{_≡_};
 ghost use lib.ListN.{length};
-ghost use Rattle.iso8211.specs.File.{frameOf};
 ghost use Rattle.words.specs.Words.{wordsIn};
 ghost use Rattle.words.specs.Order.{sorted};
 ghost use Rattle.names.specs.Names.{firstItem, nameWords, Readable, twiceOf};

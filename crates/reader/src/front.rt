@@ -1,7 +1,5 @@
 // Codes 1 and 2 of a file.
-ghost use Prim.Native.Nat.{_≤_};
 ghost use mathlib.Core.Path.{_≡_};
-ghost use lib.ListN.{length};
 ghost use Rattle.iso8211.specs.File.{recordAt};
 ghost use Rattle.reader.specs.Reader.{Before, frontOf};
 use crate::answer::Answer;

@@ -13,7 +13,6 @@ use Rattle.octets.specs.Number.{byteAt, numAt, bytesOf}
 use Rattle.octets.specs.Area.{Has, Wrote}
 use Rattle.octets.proofs.AreaLaws.{wrote-has, wrote-length, wrote-back}
 use Rattle.octets.proofs.Cases.{le-or-lt, true-or-false}
-use Rattle.octets.proofs.NumberLaws.{bytes-length}
 use Rattle.iso8211.specs.Field.{fieldAt}
 use Rattle.entries.specs.declared.Shape.{Shape}
 use Rattle.entries.specs.Entries.{Each}

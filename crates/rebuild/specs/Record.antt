@@ -19,7 +19,7 @@ use Rattle.writing.specs.Joined.{fieldPieces, bytesFor, sumBy, sumOf, listRows,
 use Rattle.changes.specs.Change.{amendmentAt, editOf}
 use Rattle.changes.specs.Amend.{kindsOf}
 use Rattle.changes.specs.Updated.{amended}
-use Rattle.amend.specs.Sides.{listBytes, Totaled}
+use Rattle.amend.specs.Sides.{Totaled}
 use Rattle.amend.specs.Pairs.{Paired}
 
 -- how many bytes the lists k of both records have, each with a 1E

@@ -1,7 +1,7 @@
 -- Where the records in front stand, their sizes, and how what was written joins. Assumes nothing.
 use Prim.Native.Nat.{ℕ, _+_, _≤_, max}
-use mathlib.Core.List.{List, _++_}
-use mathlib.Core.Path.{_≡_, sym, ap, _∙_}
+use mathlib.Core.List.{List}
+use mathlib.Core.Path.{_≡_, _∙_}
 use native.Mathlib.Omega.{arith}
 use lib.ListN.{length, length-append}
 use Rattle.octets.specs.Area.{Wrote}
@@ -18,7 +18,7 @@ use Rattle.records.proofs.WrittenLaws.{record-length}
 use Rattle.header.specs.First.{firstRecord}
 use Rattle.header.proofs.FirstLaws.{first-length}
 use Rattle.header.proofs.DssiLaws.{dssi-length}
-use Rattle.reissue.specs.Front.{dsidFields, dspmFields, revisedIn, dssiIn, RevisedSized, DsidIn, DspmIn}
+use Rattle.reissue.specs.Front.{dsidFields, dspmFields, revisedIn, dssiIn, RevisedSized, DsidIn}
 use Rattle.renewal.specs.Front.{Fronted, frontsOf, Found, frontBytes, FrontSized}
 use Rattle.renewal.specs.declared.front.Fronts.{Fronts}
 

@@ -1,7 +1,7 @@
 -- The held form of the result by its parts: how long it is, its longest record, its bytes. Assumes nothing.
 use Prim.Native.Nat.{ℕ, _+_, _≤_, max}
 use mathlib.Core.Bool.{Bool}
-use mathlib.Core.List.{List, [], _∷_, _++_, append-assoc}
+use mathlib.Core.List.{List, _∷_, _++_, append-assoc}
 use mathlib.Core.Path.{_≡_, refl, sym, ap, _∙_}
 use native.Mathlib.Omega.{arith}
 use lib.ListN.{length, length-append}
@@ -11,10 +11,10 @@ use Rattle.iso8211.specs.File.{recordAt}
 use Rattle.layout.specs.Record.{contentAt}
 use Rattle.names.specs.declared.counts.Tally.{Tally}
 use Rattle.records.specs.Pieces.{Piece}
-use Rattle.records.specs.Written.{recordBytes, recordsBytes, sizeOf}
+use Rattle.records.specs.Written.{recordBytes, recordsBytes}
 use Rattle.objects.specs.Object.{Object}
 use Rattle.header.specs.First.{firstRecord}
-use Rattle.held.specs.Chart.{headerOf, Chart}
+use Rattle.held.specs.Chart.{headerOf}
 use Rattle.held.specs.Held.{tallyIn, dsidPieces, dspmPieces, objectsPieces, recordsOf, heldOf}
 use Rattle.held.specs.Limits.{longestOf, fits}
 use Rattle.writing.specs.declared.all.Sizes.{Sizes}
@@ -23,7 +23,7 @@ use Rattle.reissue.specs.Plan.{withinLimits, Planned}
 use Rattle.changes.specs.Change.{changeOf}
 use Rattle.changes.specs.Updated.{updatedHeader}
 use Rattle.renewal.specs.Items.{objectsIn, writtenBy, mostBy, AllSized}
-use Rattle.renewal.specs.Front.{frontsOf, Found, frontBytes, FrontSized}
+use Rattle.renewal.specs.Front.{Found, frontBytes, FrontSized}
 use Rattle.renewal.specs.Renewed.{revisedHeader, renewed, frontOf}
 use Rattle.renewal.specs.declared.front.Fronts.{Fronts}
 use Rattle.renewal.proofs.AllLaws.{objects-length}

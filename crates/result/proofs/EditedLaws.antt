@@ -1,14 +1,11 @@
 -- The record of an item that the update modifies, as it was built, is the item's. Assumes nothing.
 use Prim.Native.Nat.{ℕ}
-use mathlib.Core.Bool.{cond}
 use mathlib.Core.List.{List}
-use mathlib.Core.Path.{_≡_, sym}
-use lib.Dec.{eqb}
-use borrow.Author.Tests.{eq-eqb}
+use mathlib.Core.Path.{_≡_}
 use Rattle.objects.specs.Object.{objectAt}
 use Rattle.writing.specs.Plain.{Stood}
 use Rattle.writing.proofs.StoodLaws.{stood}
-use Rattle.merge.specs.Words.{markOf, offsetOf}
+use Rattle.merge.specs.Words.{offsetOf}
 use Rattle.merge.specs.declared.walk.At.{At}
 use Rattle.changes.specs.Change.{amendmentAt}
 use Rattle.changes.specs.Updated.{amended}

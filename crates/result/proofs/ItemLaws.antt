@@ -1,23 +1,20 @@
 -- An item of the result by the record in which it stands: the cell's, the update's, or one that was built. Assumes nothing.
 use Prim.Native.Nat.{ℕ, _≤_}
-use mathlib.Core.Bool.{Bool, true, false, cond}
 use mathlib.Core.List.{List}
 use mathlib.Core.Logic.{⊎-elim}
-use mathlib.Core.Path.{_≡_, refl, sym, ap, _∙_}
+use mathlib.Core.Path.{_≡_, sym, ap, _∙_}
 use native.Mathlib.Omega.{arith}
 use lib.Dec.{eqb}
 use borrow.Author.Tests.{eq-eqb, ne-eqb}
-use Rattle.octets.proofs.Cases.{true-or-false, eq-or-ne}
-use Rattle.table.specs.Table.{rowOf, table, VRPT}
+use Rattle.octets.proofs.Cases.{eq-or-ne}
 use Rattle.items.specs.Lists.{LaidOut}
 use Rattle.items.specs.Identity.{rcnmAt, rankOf, Identified}
-use Rattle.items.specs.Item.{Item, itemAt}
+use Rattle.items.specs.Item.{itemAt}
 use Rattle.items.proofs.KindLaws.{vrpt-list}
 use Rattle.names.proofs.HeldLaws.{last-feature}
-use Rattle.topology.specs.Topology.{itemCode}
 use Rattle.topology.specs.Notes.{rankIn, noteFor, notedCode, Ranked}
 use Rattle.objects.specs.Object.{Object, objectAt, ofFeature, isFeature, listOf}
-use Rattle.writing.specs.Plain.{Writable, Stood}
+use Rattle.writing.specs.Plain.{Stood}
 use Rattle.writing.proofs.StoodLaws.{stood}
 use Rattle.merge.specs.Words.{markOf, offsetOf}
 use Rattle.merge.specs.declared.walk.At.{At}

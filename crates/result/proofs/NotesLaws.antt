@@ -1,7 +1,7 @@
 -- Laws of the walk that notes every item. Assumes nothing.
 use Prim.Native.Nat.{ℕ, _+_, _*_, _^_, _≤_, _<_}
-use mathlib.Core.List.{List, [], _∷_, map}
-use mathlib.Core.Path.{_≡_, refl, sym, ap, _∙_}
+use mathlib.Core.List.{List, _∷_}
+use mathlib.Core.Path.{_≡_}
 use native.Mathlib.Omega.{arith}
 use lib.ListN.{length}
 use Rattle.words.specs.Words.{wordsIn, putAt}
@@ -9,7 +9,7 @@ use Rattle.words.specs.Order.{Sorted}
 use Rattle.topology.specs.Notes.{noteFor, notesFor, Beside, NotesPut, Prepared}
 use Rattle.topology.proofs.BesideLaws.{beside-join}
 use Rattle.topology.proofs.NotesLaws.{Noting, noting-start, noting-room, noting-on, noting-done, put-order, put-room, put-prepared}
-use Rattle.merge.specs.Places.{placesFrom, placesOf, Woof, Headed}
+use Rattle.merge.specs.Places.{placesFrom, Woof, Headed}
 use Rattle.merge.specs.declared.walk.At.{At}
 use Rattle.merge.proofs.PlacesLaws.{places-start, places-end}
 use Rattle.verdict.specs.Verdict.{objectItem, objectItems}

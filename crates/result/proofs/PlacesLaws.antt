@@ -1,14 +1,12 @@
 -- The walk over the result along a work area in which only notes are written, and the words of its items. Assumes nothing.
-use Prim.Native.Nat.{ℕ, suc, _+_, _-_, _*_, _≤_, _<_}
+use Prim.Native.Nat.{ℕ, _+_, _-_, _*_, _≤_, _<_}
 use mathlib.Core.Bool.{Bool, true, false, cond}
 use mathlib.Core.List.{List, [], _∷_, map}
 use mathlib.Core.Path.{_≡_, refl, sym, ap, _∙_}
 use native.Mathlib.Nat.{sub-zero}
 use native.Mathlib.Omega.{arith}
 use lib.Dec.{eqb}
-use lib.ListN.{length, take, drop}
 use Rattle.words.specs.Words.{wordsIn}
-use Rattle.words.specs.Order.{Sorted}
 use Rattle.items.specs.Identity.{nameOf}
 use Rattle.topology.specs.Notes.{Beside, AllWorded}
 use Rattle.topology.specs.Notes.AllWorded.{worded-none, worded-more}

@@ -1,22 +1,20 @@
 -- Files are bytes, so the words of the result have the ranks of its items, and the ends of its edges fit their notes. Assumes nothing.
-use Prim.Native.Nat.{ℕ, zero, suc, _+_, _-_, _≤_, _<_}
-use mathlib.Core.Bool.{Bool, true, false, cond}
-use mathlib.Core.List.{List, [], _∷_, _++_}
+use Prim.Native.Nat.{ℕ, _+_, _-_, _≤_}
+use mathlib.Core.List.{List, _++_}
 use mathlib.Core.Logic.{⊎-elim}
 use mathlib.Core.Option.{Option, none, some}
-use mathlib.Core.Path.{_≡_, refl, sym, ap, _∙_}
+use mathlib.Core.Path.{_≡_}
 use native.Mathlib.Omega.{arith}
 use lib.Dec.{eqb}
 use lib.ListN.{take, drop}
 use borrow.Author.Tests.{eq-eqb, ne-eqb}
 use Rattle.octets.proofs.Cases.{eq-or-ne}
-use Rattle.table.specs.Table.{rowOf, VRPT}
+use Rattle.table.specs.Table.{VRPT}
 use Rattle.chart.specs.Value.{isAttributes}
-use Rattle.items.specs.Identity.{rcnmAt, rcidAt, rankOf, nameFrom, nameAt, nameOf}
-use Rattle.items.specs.Item.{Item, itemName}
+use Rattle.items.specs.Identity.{rcnmAt, rankOf, nameAt}
+use Rattle.items.specs.Item.{itemName}
 use Rattle.items.proofs.KindLaws.{vrpt-list}
 use Rattle.names.proofs.HeldLaws.{rcid-small, last-feature}
-use Rattle.ring.specs.Ring.{nodeWith}
 use Rattle.topology.specs.Notes.{Worded}
 use Rattle.topology.proofs.BytesLaws.{Bytes, AllBytes, all-take, all-drop, all-join, entries-bytes, node-few}
 use Rattle.topology.proofs.ReachLaws.{name-rank}

@@ -1,6 +1,6 @@
 // Topology of an update's result, codes 17 to 19, before anything of it is written: its items in held
 // order by the words that `merge` wove, each judged by `topology` where its record stands.
-ghost use Prim.Native.Nat.{_+_, _*_, _≤_};
+ghost use Prim.Native.Nat.{_+_, _≤_};
 ghost use mathlib.Core.Path.{_≡_};
 ghost use Rattle.words.specs.Words.{wordsIn};
 ghost use Rattle.names.specs.Held.{Noted};

@@ -1,21 +1,16 @@
 -- Each item of the result is one that the code can take: its records stand where its words say. Assumes nothing.
-use Prim.Native.Nat.{ℕ, _+_, _-_, _*_, _≤_, _<_}
+use Prim.Native.Nat.{ℕ, _-_, _≤_}
 use mathlib.Core.Bool.{Bool, true, false, cond}
-use mathlib.Core.List.{List, [], _∷_, map}
-use mathlib.Core.Logic.{⊎-elim}
-use mathlib.Core.Path.{_≡_, refl, sym, ap, _∙_}
+use mathlib.Core.List.{List, [], _∷_}
+use mathlib.Core.Path.{_≡_, sym, _∙_}
 use native.Mathlib.Omega.{arith}
 use lib.Dec.{eqb}
-use borrow.Author.Tests.{eq-eqb, ne-eqb}
-use Rattle.octets.proofs.Cases.{true-or-false}
 use Rattle.words.specs.Order.{sorted}
 use Rattle.chart.specs.Read.{aallAt, nallAt}
 use Rattle.iso8211.specs.File.{recordAt}
-use Rattle.items.specs.Identity.{nameAt, nameOf, ruinAt}
+use Rattle.items.specs.Identity.{nameOf, ruinAt}
 use Rattle.names.specs.Names.{nameWords}
-use Rattle.topology.proofs.BytesLaws.{Bytes}
 use Rattle.objects.specs.Object.{objectAt}
-use Rattle.held.specs.Good.{Good}
 use Rattle.writing.specs.All.{objectsAt}
 use Rattle.merge.specs.Words.{markOf, offsetOf}
 use Rattle.merge.specs.Places.{joined, single, double, placesFrom, placesOf}
@@ -28,11 +23,11 @@ use Rattle.changes.specs.Change.{amendmentAt, changeOf}
 use Rattle.changes.specs.Amend.{amendmentsFault}
 use Rattle.changes.specs.Updated.{amended}
 use Rattle.result.specs.Result.{objectBy, changedBy, objectOf}
-use Rattle.result.specs.Able.{Changed, Able, AllAble}
+use Rattle.result.specs.Able.{Able, AllAble}
 use Rattle.result.specs.Able.AllAble.{able-none, able-more}
 use Rattle.result.proofs.WordedLaws.{sited-worded}
 use Rattle.revision.specs.Following.{Following, Small}
-use Rattle.revision.proofs.StandLaws.{Modifies, stand-kept, stand-new, stand-changed}
+use Rattle.revision.proofs.StandLaws.{stand-kept, stand-new, stand-changed}
 
 -- ---- an item is modified once at most
 pub data AllOnce : List At → Type 0 where

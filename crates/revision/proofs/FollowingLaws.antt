@@ -3,26 +3,23 @@ use Prim.Native.Nat.{ℕ, zero, suc, _+_, _-_, _≤_, _<_}
 use mathlib.Core.Bool.{Bool, true, false, cond}
 use mathlib.Core.List.{List, [], _∷_}
 use mathlib.Core.Logic.{_⊎_, ⊎-elim}
-use mathlib.Core.Path.{_≡_, refl, sym, ap, _∙_}
+use mathlib.Core.Path.{_≡_, refl}
 use native.Mathlib.Omega.{arith}
 use lib.ListN.{length, getD}
 use lib.Dec.{eqb}
 use borrow.Author.Tests.{eq-eqb, ne-eqb, eqb-true, eqb-false}
-use Rattle.octets.specs.Number.{byteAt}
 use Rattle.octets.proofs.Cases.{true-or-false, eq-or-ne}
 use Rattle.iso8211.specs.Record.{endOf}
 use Rattle.iso8211.specs.File.{recordAt}
 use Rattle.iso8211.proofs.Promise.{at-next}
-use Rattle.words.specs.Order.{sorted, isIn}
+use Rattle.words.specs.Order.{isIn}
 use Rattle.chart.specs.Read.{refusal, fine, readFault}
 use Rattle.chart.specs.declared.read.Refusal.{Refusal}
 use Rattle.items.specs.Identity.{nameOf, placeOf}
 use Rattle.names.specs.Names.{firstItem, nameWords, twiceFrom, twiceOf, Readable, Strict}
-use Rattle.names.specs.Counts.{countsGood}
 use Rattle.names.specs.Lookup.{lookup}
 use Rattle.names.specs.declared.twice.Repeat.{Repeat}
-use Rattle.names.specs.declared.lookup.Found.{Found}
-use Rattle.names.specs.declared.lookup.Found.the-variants.{At, Nothing}
+use Rattle.names.specs.declared.lookup.Found.the-variants.{At}
 use Rattle.reader.specs.Reader.{cellFault, updateFault, twiceRefusal, countsRefusal}
 use Rattle.reader.proofs.ReaderLaws.{readable}
 use Rattle.objects.specs.Object.{Object}

@@ -1,15 +1,12 @@
 -- The items that the walk meets are the objects of the updated chart, one after the other. Assumes nothing.
-use Prim.Native.Nat.{ℕ, _+_, _-_, _*_, _≤_, _<_}
-use mathlib.Core.Bool.{Bool, true, false, cond}
+use Prim.Native.Nat.{ℕ, _+_, _-_, _*_, _<_}
+use mathlib.Core.Bool.{true, false}
 use mathlib.Core.List.{List, [], _∷_, map}
-use mathlib.Core.Logic.{⊎-elim}
 use mathlib.Core.Path.{_≡_, refl, sym, ap, _∙_, fun-ext}
-use native.Mathlib.Omega.{arith}
-use lib.ListN.{length}
 use lib.Dec.{eqb}
 use borrow.Author.Tests.{eq-eqb}
 use Rattle.words.specs.Order.{sorted}
-use Rattle.items.specs.Identity.{nameAt, nameOf, placeOf, ruinAt}
+use Rattle.items.specs.Identity.{nameOf, placeOf}
 use Rattle.items.specs.Item.{itemName}
 use Rattle.names.specs.Names.{nameWords}
 use Rattle.names.specs.Held.{Stands, AllStand}
@@ -19,34 +16,32 @@ use Rattle.objects.specs.Object.{Object, objectAt}
 use Rattle.held.specs.Chart.{objectName, chartOf}
 use Rattle.writing.specs.All.{objectsAt}
 use Rattle.reissue.proofs.WordLaws.{sorted-objects}
-use Rattle.merge.specs.Update as merge
 use Rattle.merge.specs.Updated.{AllFit}
 use Rattle.merge.specs.Updated.AllFit.{fit-none, fit-more}
-use Rattle.merge.specs.Words.{markOf, offsetOf, marked}
-use Rattle.merge.specs.Places.{single, thingOf, placesOf}
+use Rattle.merge.specs.Words.{marked}
+use Rattle.merge.specs.Places.{single, placesOf}
 use Rattle.merge.specs.Woven.{Wove}
 use Rattle.merge.specs.Meant.{AllKeyed, AllLow, Meant}
 use Rattle.merge.specs.Meant.AllLow.{low-none, low-more}
 use Rattle.merge.specs.Meant.AllKeyed.{keyed-none, keyed-more}
-use Rattle.merge.specs.Files.{Brought, RecordOf, changeBy}
+use Rattle.merge.specs.Files.{Brought, changeBy}
 use Rattle.merge.specs.Sited.{AllInsert}
-use Rattle.merge.specs.declared.walk.At.{At}
 use Rattle.merge.specs.declared.weave.Woven.{Woven}
-use Rattle.merge.proofs.RuinLaws.{low-mark, low-offset, set-mark, set-offset, set-name}
+use Rattle.merge.proofs.RuinLaws.{low-mark, low-offset, set-mark, set-offset}
 use Rattle.merge.proofs.MeantLaws.{target-words}
-use Rattle.merge.proofs.FilesLaws.{file-low, held-low, keyed-each, brought-result, brought-sited}
+use Rattle.merge.proofs.FilesLaws.{file-low, held-low, keyed-each, brought-result}
 use Rattle.merge.proofs.InsertLaws.{brought-insert, keyAt, changedAt, cell-keyed}
 use Rattle.changes.specs.Change.{amendmentAt, changeOf}
 use Rattle.changes.specs.Amend.{amendmentsFault, changeFault}
 use Rattle.changes.specs.Follow.{followCode}
-use Rattle.changes.specs.Updated.{amended, byAmendment, updated}
-use Rattle.changes.proofs.AmendLaws.{AllAllowed, changes-told}
+use Rattle.changes.specs.Updated.{amended, updated}
+use Rattle.changes.proofs.AmendLaws.{changes-told}
 use Rattle.changes.proofs.FitLaws.{all-fit}
 use Rattle.changes.proofs.WordLaws.{amendmentBy, amendments-words, AllMeant, result-words, fit-words}
 use Rattle.changes.proofs.WordLaws.AllMeant.{meant-none, meant-more}
 use Rattle.result.specs.Result.{objectBy, changedBy, objectOf}
 use Rattle.revision.specs.Following.{Following, Small}
-use Rattle.revision.proofs.FollowingLaws.{cell-readable, update-readable, cell-once, update-once, cell-known, update-known}
+use Rattle.revision.proofs.FollowingLaws.{cell-readable, update-readable, cell-known, update-known}
 
 -- ---- what words stand for
 name-object : {s : List ℕ} {w : ℕ} → Stands s w → objectName (objectAt s (placeOf w)) ≡ nameOf w

@@ -1,13 +1,13 @@
 -- The records behind an item of the result stand as the code wants them: one that is kept or inserted can be copied, and one that is
 -- modified can be edited. Assumes nothing.
-use Prim.Native.Nat.{ℕ, suc, _+_, _-_, _≤_, _<_}
+use Prim.Native.Nat.{ℕ, _+_, _-_, _≤_, _<_}
 use mathlib.Core.Bool.{Bool, true, false, cond}
 use mathlib.Core.List.{List}
 use mathlib.Core.Logic.{⊎-elim}
 use mathlib.Core.Option.{some}
 use mathlib.Core.Path.{_≡_, refl, sym, ap, _∙_}
 use native.Mathlib.Omega.{arith}
-use lib.ListN.{length, getD}
+use lib.ListN.{getD}
 use lib.Dec.{eqb}
 use borrow.Author.Tests.{eqb-true, ne-eqb}
 use Rattle.octets.proofs.Cases.{true-or-false}
@@ -15,14 +15,14 @@ use Rattle.iso8211.specs.File.{recordAt}
 use Rattle.iso8211.proofs.Promise.{record-in}
 use Rattle.words.specs.Order.{sorted}
 use Rattle.chart.specs.Read.{aallAt, nallAt}
-use Rattle.items.specs.Identity.{nameAt, nameOf, placeOf, rcnmAt, ruinAt, versionAt}
-use Rattle.names.specs.Names.{firstItem, nameWords, Strict}
+use Rattle.items.specs.Identity.{nameAt, nameOf, rcnmAt, ruinAt, versionAt}
+use Rattle.names.specs.Names.{firstItem, nameWords}
 use Rattle.names.specs.Lookup.{lookup}
 use Rattle.names.specs.declared.lookup.Found.the-variants.{At}
 use Rattle.names.proofs.HeldLaws.{all-stand}
 use Rattle.names.proofs.OnceLaws.{once-rising}
 use Rattle.objects.specs.Object.{Object, objectAt}
-use Rattle.held.specs.Chart.{objectName, headerOf}
+use Rattle.held.specs.Chart.{headerOf}
 use Rattle.held.specs.Good.{Good}
 use Rattle.edits.specs.Lists.{listsAllowed}
 use Rattle.writing.specs.All.{objectsAt}

@@ -2,7 +2,6 @@
 ghost use Prim.Native.Nat.{_≤_, _<_};
 ghost use mathlib.Core.Path.{_≡_};
 ghost use lib.ListN.{length};
-ghost use Rattle.octets.specs.Number.{byteAt, numAt};
 ghost use Rattle.table.specs.Table.{VRPT};
 ghost use Rattle.items.specs.Lists.{entriesAt, Listed};
 ghost use Rattle.ring.specs.Ring.{nodeStep, endsWith};

@@ -5,7 +5,6 @@ use mathlib.Core.Option.{none, some}
 use mathlib.Core.Path.{_≡_, sym, _∙_}
 use lib.Dec.{leb, eqb}
 use borrow.Author.Tests.{le-leb, eq-eqb, ne-eqb, not-true, not-false}
-use Rattle.edits.specs.Control as edits
 use Rattle.edits.specs.Control.{gone, come, allowed}
 use Rattle.edits.specs.Lists.{listAllowed}
 use Rattle.splice.specs.declared.control.Control.{Control}

@@ -1,13 +1,10 @@
 -- Laws of the table: what stands behind its last row, and which kinds there are. Assumes nothing.
-use Prim.Native.Nat.{ℕ, zero, suc, _≤_, _<_}
-use mathlib.Core.Bool.{Bool, true, false, cond}
-use mathlib.Core.List.{List, [], _∷_}
-use mathlib.Core.Logic.{⊎-elim}
-use mathlib.Core.Path.{_≡_, refl, sym, ap, _∙_}
+use Prim.Native.Nat.{ℕ, suc, _≤_}
+use mathlib.Core.List.{List}
+use mathlib.Core.Path.{_≡_}
 use native.Mathlib.Omega.{arith}
-use lib.ListN.{length, getD, List·getD-eq-default}
-use lib.Dec.{eqb}
-use Rattle.table.specs.Table.{Row, table, rowOf, kindRow}
+use lib.ListN.{getD, List·getD-eq-default}
+use Rattle.table.specs.Table.{table, rowOf, kindRow}
 
 -- past the table every row is that of 0001
 pub row-past : (k : ℕ) → 18 ≤ k → rowOf k ≡ rowOf 18

@@ -1,6 +1,6 @@
 -- Document 01's table of fields: tag, formats and labels, with the shape of the entries and the place in the record. Record 0 is checked
 -- against it, records are laid out by it, and the held form's record 0 is written from it. Assumes nothing.
-use Prim.Native.Nat.{ℕ, zero, suc, _+_, _*_, _<_}
+use Prim.Native.Nat.{ℕ, suc, _+_, _*_}
 use Prim.Native.String.{String}
 use mathlib.Core.Bool.{Bool, true, false, cond}
 use mathlib.Core.List.{List, [], _∷_}

@@ -1,17 +1,16 @@
 -- A file is one of bytes, and so is each entry of its lists; so the nodes that an edge names fit their half of its note. Assumes nothing.
-use Prim.Native.Nat.{ℕ, zero, suc, _+_, _-_, _*_, _<_}
+use Prim.Native.Nat.{ℕ, zero, suc, _+_, _-_, _<_}
 use mathlib.Core.Bool.{Bool, true, false, cond}
 use mathlib.Core.List.{List, [], _∷_, _++_}
-use mathlib.Core.Path.{_≡_, refl}
 use native.Mathlib.Omega.{arith}
-use lib.ListN.{length, getD, take, drop}
+use lib.ListN.{length, take, drop}
 use lib.Dec.{eqb}
 use Rattle.octets.specs.Number.{byteAt, numAt}
 use Rattle.iso8211.specs.Field.{countAt, fieldAt}
 use Rattle.entries.specs.declared.Shape.{Shape}
 use Rattle.entries.specs.Entries.{entryLen, entriesFrom, entriesOf}
 use Rattle.entries.specs.Rules.{through}
-use Rattle.layout.specs.Layout.{shapeOf, contentOf}
+use Rattle.layout.specs.Layout.{shapeOf}
 use Rattle.layout.specs.Record.{kindAt, contentAt}
 use Rattle.items.specs.Lists.{partAt, joinFrom, listAt, entriesAt}
 use Rattle.ring.specs.Ring.{nodeStep, nodeWith}

@@ -2,7 +2,7 @@
 use Prim.Native.Nat.{ℕ, suc, _+_, _-_, _*_, _^_, _≤_, _<_}
 use mathlib.Core.List.{List, [], _∷_, _++_}
 use mathlib.Core.Path.{_≡_, refl, sym, ap, _∙_}
-use native.Mathlib.Nat.{add-zero, zero-add, sub-zero}
+use native.Mathlib.Nat.{zero-add, sub-zero}
 use native.Mathlib.Numerals.{add-one}
 use native.Mathlib.Omega.{arith}
 use lib.ListN.{length, getD, take, drop}
@@ -21,7 +21,7 @@ use Rattle.items.specs.Lists.{entriesAt, Listed}
 use Rattle.items.specs.Identity.{foidAt, placeOf, Featured}
 use Rattle.items.specs.Item.{itemAt}
 use Rattle.items.proofs.KindLaws.{vrpt-list}
-use Rattle.names.specs.Held.{itemsOf, Stands, AllStand, Noted}
+use Rattle.names.specs.Held.{itemsOf, Stands}
 use Rattle.names.proofs.HeldLaws.{stand-rank, last-feature}
 use Rattle.ring.specs.Ring.{endsWith}
 use Rattle.topology.specs.Notes.{featureWord, rankIn, noteFor, notesFor, Ranked, Roomy, Beside, NotesPut, Prepared}

@@ -1,6 +1,6 @@
 -- What is asked of all items, as their words and notes answer it: whether a feature has a FOID, where an edge begins and ends. Assumes nothing.
 use Prim.Native.Nat.{ℕ, zero, suc, _+_, _-_, _*_, _/_, _%_, _≤_, _<_}
-use mathlib.Core.Bool.{Bool, true, false, cond, _&&_, _||_}
+use mathlib.Core.Bool.{Bool, true, false, cond}
 use mathlib.Core.List.{List, [], _∷_}
 use mathlib.Core.Logic.{⊎-elim}
 use mathlib.Core.Path.{_≡_, refl, sym, ap, _∙_, fun-ext}
@@ -24,7 +24,7 @@ use Rattle.names.specs.declared.lookup.Found.the-variants.{At, Nothing}
 use Rattle.names.proofs.HeldLaws.{stand-first, stand-rest, stand-rank, stand-name, last-feature}
 use Rattle.pointer.specs.Pointer.{heldFoid}
 use Rattle.ring.specs.Ring.{nodeWith, nodeOf, nodesOf, found, nodeIn, endsWith, endIn, nodeAt}
-use Rattle.topology.specs.Topology.{itemCode, codeAmong}
+use Rattle.topology.specs.Topology.{codeAmong}
 use Rattle.topology.specs.Notes.{featureWord, rankIn, noteFor, notesFor, notedCode, Prepared, Worded, AllWorded, worded-none, worded-more}
 use Rattle.topology.proofs.BytesLaws.{Bytes, entries-bytes, node-few}
 

@@ -1,15 +1,15 @@
 -- Laws of the code that judges all items: one for each way through it. Assumes nothing.
 use Prim.Native.Nat.{ℕ, zero, suc, _+_, _-_, _*_, _≤_, _<_}
-use mathlib.Core.Bool.{Bool, true, false, cond}
-use mathlib.Core.List.{List, [], _∷_}
+use mathlib.Core.Bool.{Bool, false, cond}
+use mathlib.Core.List.{List}
 use mathlib.Core.Logic.{⊎-elim}
-use mathlib.Core.Path.{_≡_, refl, sym, ap, _∙_}
-use native.Mathlib.Nat.{add-zero, zero-add, sub-zero}
+use mathlib.Core.Path.{_≡_, refl, sym, _∙_}
+use native.Mathlib.Nat.{zero-add, sub-zero}
 use native.Mathlib.Numerals.{add-one}
 use native.Mathlib.Omega.{arith}
 use lib.ListN.{length, getD}
 use lib.Dec.{eqb}
-use borrow.Author.Tests.{eq-eqb, ne-eqb}
+use borrow.Author.Tests.{ne-eqb}
 use Rattle.octets.specs.Number.{byteAt}
 use Rattle.octets.proofs.Cases.{eq-or-ne}
 use Rattle.table.specs.Table.{FFPT, FSPT}
@@ -17,7 +17,7 @@ use Rattle.words.specs.Words.{wordAt, wordsIn}
 use Rattle.words.specs.Order.{Sorted, sorted}
 use Rattle.words.proofs.WordsLaws.{words-at, words-length}
 use Rattle.words.proofs.OrderLaws.{sorted-in-order}
-use Rattle.chart.specs.Read.{refusal, fine}
+use Rattle.chart.specs.Read.{refusal}
 use Rattle.chart.specs.declared.read.Refusal.{Refusal}
 use Rattle.items.specs.Lists.{entriesAt, LaidOut}
 use Rattle.items.specs.Identity.{rcnmAt, primAt, placeOf, Identified, Featured}
@@ -31,9 +31,8 @@ use Rattle.names.specs.declared.lookup.Found.{Found}
 use Rattle.shape.specs.Shape.{shapeCode}
 use Rattle.pointer.specs.Pointer.{firstCode, lnamsCode, pointerCode}
 use Rattle.ring.specs.Ring.{ringCode, areaCode}
-use Rattle.topology.specs.Topology.{itemCode, codeAmong, faultFrom, topologyOf, topologyFault}
+use Rattle.topology.specs.Topology.{itemCode, faultFrom, topologyOf, topologyFault}
 use Rattle.topology.specs.Notes.{notesFor, notedCode, Roomy, Prepared}
-use Rattle.topology.proofs.BytesLaws.{Bytes}
 use Rattle.topology.proofs.ReachLaws.{code-noted, items-worded}
 
 -- ---- one item: a is its code of Shape

@@ -13,7 +13,7 @@ use Rattle.items.specs.Lists.{LaidOut}
 use Rattle.items.specs.Identity.{rcnmAt, rankOf, nameOf, Identified}
 use Rattle.items.specs.Item.{Item, itemName}
 use Rattle.names.specs.Lookup.{indexOf}
-use Rattle.names.specs.Held.{itemsOf, AllStand, Noted}
+use Rattle.names.specs.Held.{AllStand, Noted}
 use Rattle.pointer.specs.Pointer.{heldFoid}
 use Rattle.ring.specs.Ring.{nodeWith, endsWith, nodeAt}
 use Rattle.topology.specs.Topology.{itemCode}

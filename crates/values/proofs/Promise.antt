@@ -1,5 +1,5 @@
 -- What the crates above get from a fault: where it stands, and, where there is none, the facts of numbers that the field's values give. Assumes nothing.
-use Prim.Native.Nat.{ℕ, _+_, _-_, _≤_}
+use Prim.Native.Nat.{ℕ, _-_, _≤_}
 use mathlib.Core.Bool.{Bool, true, cond}
 use mathlib.Core.List.{List}
 use mathlib.Core.Path.{_≡_}
@@ -8,7 +8,7 @@ use lib.ListN.{length}
 use lib.Dec.{leb, eqb}
 use borrow.Author.Tests.{leb-true, eqb-true}
 use Rattle.octets.specs.Number.{byteAt, numAt}
-use Rattle.octets.proofs.Tests.{both, all3}
+use Rattle.octets.proofs.Tests.{both}
 use Rattle.values.specs.Rule.{within, rcidGood, rverGood, ruinGood}
 use Rattle.values.specs.Class.{objlGood}
 use Rattle.values.specs.Dssi.{dssiFault}

@@ -1,5 +1,5 @@
 -- All items written and counted: turns of the loops; and that records which are short enough fit. Assumes nothing.
-use Prim.Native.Nat.{_*_, ℕ, suc, _+_, _≤_, _<_, max}
+use Prim.Native.Nat.{_*_, ℕ, _+_, _≤_, _<_, max}
 use mathlib.Core.List.{List, [], _∷_, _++_}
 use mathlib.Core.Path.{_≡_, refl, ap, _∙_}
 use native.Mathlib.Omega.{arith}

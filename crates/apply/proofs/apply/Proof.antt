@@ -6,11 +6,6 @@ use Prim.Native.Nat.{ℕ}
 use borrow.Author.Needs.{needs}
 use Rattle.apply.proofs.apply.Statement.{statement}
 use Rattle.apply.proofs.apply.Tie as tie
-use Rattle.apply.proofs.apply.Reads as reads
-use Rattle.apply.proofs.apply.Lts as lts
-use Rattle.apply.proofs.update_opened.Reads as update-opened-reads
-use Rattle.octets.proofs.area.clear.Reads as clear-reads
-use Rattle.reader.proofs.front.opened.Reads as opened-reads
 
 -- src/lib.rt:39:9
 opened-requires : tie.Need-opened-requires

@@ -3,10 +3,6 @@ use Rattle.reader.proofs.CallLaws.{counted}
 use borrow.Author.Needs.{needs}
 use Rattle.apply.proofs.update_opened.Statement.{statement}
 use Rattle.apply.proofs.update_opened.Tie as tie
-use Rattle.apply.proofs.update_opened.Reads as reads
-use Rattle.apply.proofs.update_opened.Lts as lts
-use Rattle.apply.proofs.checked.applied.Reads as applied-reads
-use Rattle.reader.proofs.front.opened.Reads as opened-reads
 
 -- src/lib.rt:25:9
 opened-requires : tie.Need-opened-requires

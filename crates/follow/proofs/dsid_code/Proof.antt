@@ -3,10 +3,6 @@ use Rattle.follow.proofs.FollowLaws.{code-other, code-edition, code-num
 use borrow.Author.Needs.{needs}
 use Rattle.follow.proofs.dsid_code.Statement.{statement}
 use Rattle.follow.proofs.dsid_code.Tie as tie
-use Rattle.follow.proofs.dsid_code.Reads as reads
-use Rattle.follow.proofs.dsid_code.Lts as lts
-use Rattle.follow.proofs.same_name.Reads as same-name-reads
-use Rattle.header.proofs.dsid.parts_of.Reads as parts-of-reads
 
 same-name-requires : tie.Need-same-name-requires
 same-name-requires c κs = search needs

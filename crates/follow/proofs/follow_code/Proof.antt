@@ -4,12 +4,6 @@ use Rattle.follow.proofs.FollowLaws.{dsid-inside, dsid-second, code-dsi
 use borrow.Author.Needs.{needs}
 use Rattle.follow.proofs.follow_code.Statement.{statement}
 use Rattle.follow.proofs.follow_code.Tie as tie
-use Rattle.follow.proofs.follow_code.Reads as reads
-use Rattle.follow.proofs.follow_code.Lts as lts
-use Rattle.follow.proofs.dsid_code.Reads as dsid-code-reads
-use Rattle.follow.proofs.header_at.Reads as header-at-reads
-use Rattle.follow.proofs.same_levels.Reads as same-levels-reads
-use Rattle.reissue.proofs.front.content.Reads as content-reads
 
 header-at-requires : tie.Need-header-at-requires
 header-at-requires c κs = search needs

@@ -3,9 +3,6 @@ use Rattle.follow.proofs.FollowLaws.{first-at, first-dsid}
 use borrow.Author.Needs.{needs}
 use Rattle.follow.proofs.header_at.Statement.{statement}
 use Rattle.follow.proofs.header_at.Tie as tie
-use Rattle.follow.proofs.header_at.Reads as reads
-use Rattle.follow.proofs.header_at.Lts as lts
-use Rattle.iso8211.proofs.field.record_end.Reads as record-end-reads
 
 record-end-requires : tie.Need-record-end-requires
 record-end-requires c κs = search needs

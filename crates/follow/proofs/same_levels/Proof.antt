@@ -3,9 +3,6 @@ use Rattle.follow.proofs.FollowLaws.{levels-first, levels-second}
 use borrow.Author.Needs.{needs}
 use Rattle.follow.proofs.same_levels.Statement.{statement}
 use Rattle.follow.proofs.same_levels.Tie as tie
-use Rattle.follow.proofs.same_levels.Reads as reads
-use Rattle.follow.proofs.same_levels.Lts as lts
-use Rattle.reissue.proofs.front.dssi_at.Reads as dssi-at-reads
 
 dssi-at-requires : tie.Need-dssi-at-requires
 dssi-at-requires c κs = search needs

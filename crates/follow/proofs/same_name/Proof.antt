@@ -3,9 +3,6 @@ use Rattle.follow.proofs.FollowLaws.{name-same}
 use borrow.Author.Needs.{needs}
 use Rattle.follow.proofs.same_name.Statement.{statement}
 use Rattle.follow.proofs.same_name.Tie as tie
-use Rattle.follow.proofs.same_name.Reads as reads
-use Rattle.follow.proofs.same_name.Lts as lts
-use Rattle.iso8211.proofs.descriptive.same_bytes.Reads as same-bytes-reads
 
 sub-same-bytes : tie.Need-sub-same-bytes
 sub-same-bytes c = search needs

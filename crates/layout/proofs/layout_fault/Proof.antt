@@ -9,14 +9,6 @@ use Rattle.layout.proofs.LayoutLaws.{field-fits, field-long, start-with
 use borrow.Author.Needs.{needs}
 use Rattle.layout.proofs.layout_fault.Statement.{statement}
 use Rattle.layout.proofs.layout_fault.Tie as tie
-use Rattle.layout.proofs.layout_fault.Reads as reads
-use Rattle.layout.proofs.layout_fault.Lts as lts
-use Rattle.iso8211.proofs.field.field_on.Reads as field-on-reads
-use Rattle.iso8211.proofs.field.head_of.Reads as head-of-reads
-use Rattle.iso8211.proofs.field.record_end.Reads as record-end-reads
-use Rattle.layout.proofs.field_laid.Reads as field-laid-reads
-use Rattle.layout.proofs.place.may_end.Reads as may-end-reads
-use Rattle.table.proofs.kind_of.Reads as kind-of-reads
 
 abbrev Inv-loop : tie.InvT-loop
 Inv-loop s at marks update stage head count prev₀ due₀ j₀ prev due j = (count ≡ countAt s at) × (j ≤ count) × Due s at j due × (layoutFault update stage marks s at ≡ laidFrom (countAt s at - j) update stage marks s at j prev)

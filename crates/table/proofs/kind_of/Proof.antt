@@ -4,11 +4,8 @@ use mathlib.Core.Path.{sym}
 use native.Mathlib.Omega.{arith}
 use Rattle.table.specs.Text.{bytes}
 use Rattle.table.specs.Table.{table, kindOf, among, asNumber}
-use borrow.Author.Needs.{needs}
 use Rattle.table.proofs.kind_of.Statement.{statement}
 use Rattle.table.proofs.kind_of.Tie as tie
-use Rattle.table.proofs.kind_of.Reads as reads
-use Rattle.table.proofs.kind_of.Lts as lts
 
 returns : tie.Need-returns
 unfolding kindOf among table asNumber bytes

@@ -7,11 +7,6 @@ use Rattle.table.specs.Table.{table, rowOf}
 use borrow.Author.Needs.{needs}
 use Rattle.table.proofs.kind_row.Statement.{statement}
 use Rattle.table.proofs.kind_row.Tie as tie
-use Rattle.table.proofs.kind_row.Reads as reads
-use Rattle.table.proofs.kind_row.Lts as lts
-use Rattle.table.proofs.control.Reads as control-reads
-use Rattle.table.proofs.many.Reads as many-reads
-use Rattle.table.proofs.single.Reads as single-reads
 
 single-requires : tie.Need-single-requires
 single-requires c κs = search needs

@@ -9,11 +9,6 @@ use Rattle.topology.proofs.TopologyLaws.{fault-start, fault-found, faul
 use borrow.Author.Needs.{needs}
 use Rattle.topology.proofs.items_fault.Statement.{statement}
 use Rattle.topology.proofs.items_fault.Tie as tie
-use Rattle.topology.proofs.items_fault.Reads as reads
-use Rattle.topology.proofs.items_fault.Lts as lts
-use Rattle.chart.proofs.read.refuse.Reads as refuse-reads
-use Rattle.topology.proofs.item_code.Reads as item-code-reads
-use Rattle.words.proofs.get.Reads as get-reads
 
 abbrev Inv-loop : tie.InvT-loop
 Inv-loop s comf work m v i₀ i = (i ≤ m) × (faultFrom (notedCode comf work m v) 3 (itemsOf s (wordsIn work 0 m)) ≡ faultFrom (notedCode comf work m v) (3 + i) (itemsOf s (wordsIn work i (m - i))))

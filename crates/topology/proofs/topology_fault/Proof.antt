@@ -6,11 +6,6 @@ use Rattle.topology.proofs.TopologyLaws.{held-order, held-roomy, held-n
 use borrow.Author.Needs.{needs}
 use Rattle.topology.proofs.topology_fault.Statement.{statement}
 use Rattle.topology.proofs.topology_fault.Tie as tie
-use Rattle.topology.proofs.topology_fault.Reads as reads
-use Rattle.topology.proofs.topology_fault.Lts as lts
-use Rattle.names.proofs.comf.comf_of.Reads as comf-of-reads
-use Rattle.topology.proofs.items_fault.Reads as items-fault-reads
-use Rattle.topology.proofs.note.prepare.Reads as prepare-reads
 
 sub-m : tie.Need-sub-m
 sub-m c = search (needs, readable-three)

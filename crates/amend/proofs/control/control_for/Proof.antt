@@ -2,9 +2,6 @@ use borrow.Author.Needs.{needs}
 use Rattle.amend.proofs.ControlLaws.{chosen-points, chosen-objects, chosen-spatial, chosen-coordinates, chosen-none}
 use Rattle.amend.proofs.control.control_for.Statement.{statement}
 use Rattle.amend.proofs.control.control_for.Tie as tie
-use Rattle.amend.proofs.control.control_for.Reads as reads
-use Rattle.amend.proofs.control.control_for.Lts as lts
-use Rattle.amend.proofs.control.no_control.Reads as no-control-reads
 
 -- src/control.rt:71:9
 returns : tie.Need-returns

@@ -2,12 +2,6 @@ use borrow.Author.Needs.{needs}
 use Rattle.amend.proofs.ControlLaws.{control-room, control-none, control-some, control-given}
 use Rattle.amend.proofs.control.control_of.Statement.{statement}
 use Rattle.amend.proofs.control.control_of.Tie as tie
-use Rattle.amend.proofs.control.control_of.Reads as reads
-use Rattle.amend.proofs.control.control_of.Lts as lts
-use Rattle.amend.proofs.control.no_control.Reads as no-control-reads
-use Rattle.octets.proofs.number.get1.Reads as get1-reads
-use Rattle.octets.proofs.number.get2.Reads as get2-reads
-use Rattle.writing.proofs.lists.put_list.Reads as put-list-reads
 
 -- src/control.rt:36:9
 put-list-requires : tie.Need-put-list-requires

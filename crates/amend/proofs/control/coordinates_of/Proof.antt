@@ -2,9 +2,6 @@ use borrow.Author.Needs.{needs}
 use Rattle.amend.proofs.ControlLaws.{means-pairs, means-soundings, means-none, means-come}
 use Rattle.amend.proofs.control.coordinates_of.Statement.{statement}
 use Rattle.amend.proofs.control.coordinates_of.Tie as tie
-use Rattle.amend.proofs.control.coordinates_of.Reads as reads
-use Rattle.amend.proofs.control.coordinates_of.Lts as lts
-use Rattle.writing.proofs.lists.total.Reads as total-reads
 
 -- src/control.rt:53:8
 total-requires : tie.Need-total-requires

@@ -2,8 +2,6 @@ use Rattle.octets.proofs.Tests.{tests}
 use Rattle.chart.specs.Value.{isAttributes}
 use Rattle.amend.proofs.lists.is_attributes.Statement.{statement}
 use Rattle.amend.proofs.lists.is_attributes.Tie as tie
-use Rattle.amend.proofs.lists.is_attributes.Reads as reads
-use Rattle.amend.proofs.lists.is_attributes.Lts as lts
 
 -- src/lists.rt:18:9
 returns : tie.Need-returns

@@ -2,9 +2,6 @@ use borrow.Author.Needs.{needs}
 use Rattle.amend.proofs.SidesLaws.{sides-second, sides-put}
 use Rattle.amend.proofs.lists.put_sides.Statement.{statement}
 use Rattle.amend.proofs.lists.put_sides.Tie as tie
-use Rattle.amend.proofs.lists.put_sides.Reads as reads
-use Rattle.amend.proofs.lists.put_sides.Lts as lts
-use Rattle.writing.proofs.lists.put_list.Reads as put-list-reads
 
 -- src/lists.rt:47:9
 put-list-requires : tie.Need-put-list-requires

@@ -4,11 +4,6 @@ use mathlib.Core.Path.{refl}
 use borrow.Author.Needs.{needs}
 use Rattle.apply.proofs.amended.amended.Statement.{statement}
 use Rattle.apply.proofs.amended.amended.Tie as tie
-use Rattle.apply.proofs.amended.amended.Reads as reads
-use Rattle.apply.proofs.amended.amended.Lts as lts
-use Rattle.amendments.proofs.fault.amendments_fault.Reads as amendments-fault-reads
-use Rattle.apply.proofs.merged.merged.Reads as merged-reads
-use Rattle.reader.proofs.answer.filed.Reads as filed-reads
 
 -- src/amended.rt:31:16
 sub-held : tie.Need-sub-held

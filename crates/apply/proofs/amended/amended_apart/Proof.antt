@@ -2,12 +2,6 @@ use Rattle.apply.proofs.MergeLaws.{rooms-made}
 use borrow.Author.Needs.{needs}
 use Rattle.apply.proofs.amended.amended_apart.Statement.{statement}
 use Rattle.apply.proofs.amended.amended_apart.Tie as tie
-use Rattle.apply.proofs.amended.amended_apart.Reads as reads
-use Rattle.apply.proofs.amended.amended_apart.Lts as lts
-use Rattle.apply.proofs.amended.amended.Reads as amended-reads
-use Rattle.apply.proofs.amended.blank_table.Reads as blank-table-reads
-use Rattle.apply.proofs.amended.wide_join.Reads as wide-join-reads
-use Rattle.apply.proofs.amended.wide_room.Reads as wide-room-reads
 
 -- src/amended.rt:68:20
 wide-join-requires : tie.Need-wide-join-requires

@@ -4,13 +4,6 @@ use Rattle.apply.proofs.FrontLaws.{cell-headed, update-headed}
 use borrow.Author.Needs.{needs}
 use Rattle.apply.proofs.amended.changed.Statement.{statement}
 use Rattle.apply.proofs.amended.changed.Tie as tie
-use Rattle.apply.proofs.amended.changed.Reads as reads
-use Rattle.apply.proofs.amended.changed.Lts as lts
-use Rattle.apply.proofs.amended.amended_apart.Reads as amended-apart-reads
-use Rattle.chart.proofs.read.refuse.Reads as refuse-reads
-use Rattle.follow.proofs.follow_code.Reads as follow-code-reads
-use Rattle.follow.proofs.header_at.Reads as header-at-reads
-use Rattle.reader.proofs.answer.filed.Reads as filed-reads
 
 -- src/amended.rt:80:9
 follow-code-requires : tie.Need-follow-code-requires

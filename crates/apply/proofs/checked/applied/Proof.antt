@@ -4,11 +4,6 @@ use native.Mathlib.Omega.{arith}
 use borrow.Author.Needs.{needs}
 use Rattle.apply.proofs.checked.applied.Statement.{statement}
 use Rattle.apply.proofs.checked.applied.Tie as tie
-use Rattle.apply.proofs.checked.applied.Reads as reads
-use Rattle.apply.proofs.checked.applied.Lts as lts
-use Rattle.apply.proofs.amended.changed.Reads as changed-reads
-use Rattle.reader.proofs.answer.answered.Reads as answered-reads
-use Rattle.reader.proofs.both.both_fault.Reads as both-fault-reads
 
 -- src/checked.rt:19:27
 add-if1 : tie.Need-add-if1

@@ -3,12 +3,6 @@ use Rattle.apply.proofs.ResultLaws.{area-kept, filed-kept, judged-refus
 use borrow.Author.Needs.{needs}
 use Rattle.apply.proofs.merged.judged_into.Statement.{statement}
 use Rattle.apply.proofs.merged.judged_into.Tie as tie
-use Rattle.apply.proofs.merged.judged_into.Reads as reads
-use Rattle.apply.proofs.merged.judged_into.Lts as lts
-use Rattle.apply.proofs.merged.result_into.Reads as result-into-reads
-use Rattle.names.proofs.comf.comf_of.Reads as comf-of-reads
-use Rattle.reader.proofs.answer.filed.Reads as filed-reads
-use Rattle.result.proofs.result_fault.Reads as result-fault-reads
 
 -- src/merged.rt:67:9
 comf-of-requires : tie.Need-comf-of-requires

@@ -3,10 +3,6 @@ use mathlib.Core.Path.{refl}
 use borrow.Author.Needs.{needs}
 use Rattle.apply.proofs.merged.merged.Statement.{statement}
 use Rattle.apply.proofs.merged.merged.Tie as tie
-use Rattle.apply.proofs.merged.merged.Reads as reads
-use Rattle.apply.proofs.merged.merged.Lts as lts
-use Rattle.apply.proofs.merged.judged_into.Reads as judged-into-reads
-use Rattle.merge.proofs.woven.Reads as woven-reads
 
 -- src/merged.rt:92:13
 sub-i : tie.Need-sub-i

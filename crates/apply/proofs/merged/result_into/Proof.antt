@@ -1,14 +1,8 @@
-use mathlib.Core.Path.{refl}
 use Rattle.loader.proofs.AdmitLaws.{size-answer, size-area, room-answer, room-area, done-answer, done-area}
 use Rattle.apply.proofs.ResultLaws.{many-fail, renewing, plan-fails, plan-fits, plan-total, plan-room}
 use borrow.Author.Needs.{needs}
 use Rattle.apply.proofs.merged.result_into.Statement.{statement}
 use Rattle.apply.proofs.merged.result_into.Tie as tie
-use Rattle.apply.proofs.merged.result_into.Reads as reads
-use Rattle.apply.proofs.merged.result_into.Lts as lts
-use Rattle.reader.proofs.answer.answered.Reads as answered-reads
-use Rattle.renewal.proofs.write.planned.Reads as planned-reads
-use Rattle.renewal.proofs.write.put_result.Reads as put-result-reads
 
 -- src/merged.rt:35:9
 answered-requires : tie.Need-answered-requires

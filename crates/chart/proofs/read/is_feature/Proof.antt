@@ -3,11 +3,6 @@ use Rattle.chart.proofs.ReadLaws.{feature-is}
 use borrow.Author.Needs.{needs}
 use Rattle.chart.proofs.read.is_feature.Statement.{statement}
 use Rattle.chart.proofs.read.is_feature.Tie as tie
-use Rattle.chart.proofs.read.is_feature.Reads as reads
-use Rattle.chart.proofs.read.is_feature.Lts as lts
-use Rattle.iso8211.proofs.field.field_at.Reads as field-at-reads
-use Rattle.iso8211.proofs.field.head_of.Reads as head-of-reads
-use Rattle.table.proofs.kind_of.Reads as kind-of-reads
 
 head-of-requires : tie.Need-head-of-requires
 head-of-requires c κs = search needs

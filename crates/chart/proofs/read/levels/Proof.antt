@@ -5,11 +5,6 @@ use Rattle.chart.proofs.ReadLaws.{levels-are, levels-room}
 use borrow.Author.Needs.{needs}
 use Rattle.chart.proofs.read.levels.Statement.{statement}
 use Rattle.chart.proofs.read.levels.Tie as tie
-use Rattle.chart.proofs.read.levels.Reads as reads
-use Rattle.chart.proofs.read.levels.Lts as lts
-use Rattle.iso8211.proofs.field.field_at.Reads as field-at-reads
-use Rattle.iso8211.proofs.field.head_of.Reads as head-of-reads
-use Rattle.octets.proofs.number.wide.Reads as wide-reads
 
 head-of-requires : tie.Need-head-of-requires
 head-of-requires c κs = search needs

@@ -2,11 +2,8 @@ use borrow.Author.Tests.{eq-eqb, ne-eqb}
 -- Each return is one of the definition's tests.
 use Rattle.octets.proofs.Tests.{tests}
 use Rattle.chart.specs.Read.{nextStage}
-use borrow.Author.Needs.{needs}
 use Rattle.chart.proofs.read.next_stage.Statement.{statement}
 use Rattle.chart.proofs.read.next_stage.Tie as tie
-use Rattle.chart.proofs.read.next_stage.Reads as reads
-use Rattle.chart.proofs.read.next_stage.Lts as lts
 
 returns : tie.Need-returns
 unfolding nextStage

@@ -3,11 +3,6 @@ use Rattle.chart.proofs.ReadLaws.{passed-first, passed-later}
 use borrow.Author.Needs.{needs}
 use Rattle.chart.proofs.read.passed.Statement.{statement}
 use Rattle.chart.proofs.read.passed.Tie as tie
-use Rattle.chart.proofs.read.passed.Reads as reads
-use Rattle.chart.proofs.read.passed.Lts as lts
-use Rattle.chart.proofs.read.is_feature.Reads as is-feature-reads
-use Rattle.chart.proofs.read.levels.Reads as levels-reads
-use Rattle.chart.proofs.read.next_stage.Reads as next-stage-reads
 
 is-feature-requires : tie.Need-is-feature-requires
 is-feature-requires c κs = search needs

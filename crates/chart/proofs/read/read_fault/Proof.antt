@@ -1,17 +1,9 @@
 -- Record 0 first, then the records behind it.
-use mathlib.Core.Path.{ap, _∙_}
-use lib.ListN.{length, length-replicate}
 use Rattle.iso8211.proofs.Promise.{record-in, at-start, last-ends}
 use Rattle.chart.proofs.ReadLaws.{read-described, read-records, blank-upto}
 use borrow.Author.Needs.{needs}
 use Rattle.chart.proofs.read.read_fault.Statement.{statement}
 use Rattle.chart.proofs.read.read_fault.Tie as tie
-use Rattle.chart.proofs.read.read_fault.Reads as reads
-use Rattle.chart.proofs.read.read_fault.Lts as lts
-use Rattle.chart.proofs.read.blank.Reads as blank-reads
-use Rattle.chart.proofs.read.records_fault.Reads as records-fault-reads
-use Rattle.chart.proofs.read.refuse.Reads as refuse-reads
-use Rattle.described.proofs.described.Reads as described-reads
 
 described-requires : tie.Need-described-requires
 described-requires c κs = record-in _ _ 0 0 (c .before .pre .0) (last-ends _ _ (c .before .pre .0) .0) (at-start _)

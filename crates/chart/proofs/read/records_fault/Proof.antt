@@ -10,13 +10,6 @@ use Rattle.chart.proofs.ReadLaws.{Reading, reading-start, reading-layou
 use borrow.Author.Needs.{needs}
 use Rattle.chart.proofs.read.records_fault.Statement.{statement}
 use Rattle.chart.proofs.read.records_fault.Tie as tie
-use Rattle.chart.proofs.read.records_fault.Reads as reads
-use Rattle.chart.proofs.read.records_fault.Lts as lts
-use Rattle.chart.proofs.read.passed.Reads as passed-reads
-use Rattle.chart.proofs.read.refuse.Reads as refuse-reads
-use Rattle.chart.proofs.value.value_fault.Reads as value-fault-reads
-use Rattle.iso8211.proofs.field.record_end.Reads as record-end-reads
-use Rattle.layout.proofs.layout_fault.Reads as layout-fault-reads
 
 abbrev Inv-loop : tie.InvT-loop
 Inv-loop s n marks update table₀ st₀ at₀ k₀ table st at k = (1 ≤ k) × (k ≤ n) × (at ≡ recordAt s k) × (length table ≡ 65536) × Reading update marks s n table k at st

@@ -3,10 +3,6 @@ use Rattle.chart.proofs.ValueLaws.{attv-whole, attf-whole, natf-whole, 
 use borrow.Author.Needs.{needs}
 use Rattle.chart.proofs.value.field_fault.Statement.{statement}
 use Rattle.chart.proofs.value.field_fault.Tie as tie
-use Rattle.chart.proofs.value.field_fault.Reads as reads
-use Rattle.chart.proofs.value.field_fault.Lts as lts
-use Rattle.attributes.proofs.attributes_fault.Reads as attributes-fault-reads
-use Rattle.chart.proofs.value.plain_fault.Reads as plain-fault-reads
 
 attributes-fault-requires : tie.Need-attributes-fault-requires
 attributes-fault-requires c κs = (attv-whole (c .before .if1 .taken) (c .before .before .before .before .pre .0), c .before .before .before .before .pre .1)

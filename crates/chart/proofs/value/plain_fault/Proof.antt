@@ -3,17 +3,8 @@ use Rattle.layout.proofs.Promise.{full-dsid, full-dssi, full-dspm, full-vrid, f
 use Rattle.dataset.proofs.Promise.{dsid-within}
 use Rattle.values.proofs.Promise.{dssi-within, dspm-within, vrid-within, frid-within}
 use Rattle.chart.proofs.ValueLaws.{plain-dsid, plain-dssi, plain-dspm, plain-vrid, plain-frid, plain-ffpt, plain-none, pointers-whole}
-use borrow.Author.Needs.{needs}
 use Rattle.chart.proofs.value.plain_fault.Statement.{statement}
 use Rattle.chart.proofs.value.plain_fault.Tie as tie
-use Rattle.chart.proofs.value.plain_fault.Reads as reads
-use Rattle.chart.proofs.value.plain_fault.Lts as lts
-use Rattle.attributes.proofs.ffpt_fault.Reads as ffpt-fault-reads
-use Rattle.dataset.proofs.dsid_fault.Reads as dsid-fault-reads
-use Rattle.values.proofs.dspm.dspm_fault.Reads as dspm-fault-reads
-use Rattle.values.proofs.dssi.dssi_fault.Reads as dssi-fault-reads
-use Rattle.values.proofs.frid.frid_fault.Reads as frid-fault-reads
-use Rattle.values.proofs.vrid.vrid_fault.Reads as vrid-fault-reads
 
 dsid-fault-requires : tie.Need-dsid-fault-requires
 dsid-fault-requires c κs = full-dsid _ (rw (c .match .keys1) at (c .before .before .pre .0))

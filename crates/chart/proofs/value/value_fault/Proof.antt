@@ -9,13 +9,6 @@ use Rattle.chart.proofs.ValueLaws.{Walked, walked-start, walked-on, wal
 use borrow.Author.Needs.{needs}
 use Rattle.chart.proofs.value.value_fault.Statement.{statement}
 use Rattle.chart.proofs.value.value_fault.Tie as tie
-use Rattle.chart.proofs.value.value_fault.Reads as reads
-use Rattle.chart.proofs.value.value_fault.Lts as lts
-use Rattle.chart.proofs.value.field_fault.Reads as field-fault-reads
-use Rattle.chart.proofs.value.stamp_of.Reads as stamp-of-reads
-use Rattle.iso8211.proofs.field.field_on.Reads as field-on-reads
-use Rattle.iso8211.proofs.field.head_of.Reads as head-of-reads
-use Rattle.table.proofs.kind_of.Reads as kind-of-reads
 
 abbrev Inv-loop : tie.InvT-loop
 Inv-loop s at update aall nall table₀ head count prev₀ stamp₀ due₀ j₀ table prev stamp due j = (j ≤ count) × (length table ≡ 65536) × Walked update aall nall s at table₀ table j prev stamp × Due s at j due

@@ -3,10 +3,6 @@ use Rattle.header.proofs.PutLaws.{dsid-sized}
 use borrow.Author.Needs.{needs}
 use Rattle.header.proofs.dsid.dsid_size.Statement.{statement}
 use Rattle.header.proofs.dsid.dsid_size.Tie as tie
-use Rattle.header.proofs.dsid.dsid_size.Reads as reads
-use Rattle.header.proofs.dsid.dsid_size.Lts as lts
-use Rattle.header.proofs.dsid.parts_of.Reads as parts-of-reads
-use Rattle.header.proofs.dsid.size_with.Reads as size-with-reads
 
 parts-of-requires : tie.Need-parts-of-requires
 parts-of-requires c κs = search needs

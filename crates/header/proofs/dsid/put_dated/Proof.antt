@@ -3,11 +3,6 @@ use Rattle.header.proofs.PutLaws.{names-room, dates-room, dated-put}
 use borrow.Author.Needs.{needs}
 use Rattle.header.proofs.dsid.put_dated.Statement.{statement}
 use Rattle.header.proofs.dsid.put_dated.Tie as tie
-use Rattle.header.proofs.dsid.put_dated.Reads as reads
-use Rattle.header.proofs.dsid.put_dated.Lts as lts
-use Rattle.header.proofs.dsid.parts_of.Reads as parts-of-reads
-use Rattle.header.proofs.dsid.put_dates.Reads as put-dates-reads
-use Rattle.header.proofs.dsid.put_names.Reads as put-names-reads
 
 parts-of-requires : tie.Need-parts-of-requires
 parts-of-requires c κs = search needs

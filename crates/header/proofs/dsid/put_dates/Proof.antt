@@ -3,9 +3,6 @@ use Rattle.header.proofs.PutLaws.{applied-room, issued-room, rest-room,
 use borrow.Author.Needs.{needs}
 use Rattle.header.proofs.dsid.put_dates.Statement.{statement}
 use Rattle.header.proofs.dsid.put_dates.Tie as tie
-use Rattle.header.proofs.dsid.put_dates.Reads as reads
-use Rattle.header.proofs.dsid.put_dates.Lts as lts
-use Rattle.octets.proofs.area.copy.Reads as copy-reads
 
 copy-requires : tie.Need-copy-requires
 copy-requires c κs = search (needs, applied-room)

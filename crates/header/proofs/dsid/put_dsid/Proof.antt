@@ -3,10 +3,6 @@ use Rattle.header.proofs.PutLaws.{dsid-room, dsid-put}
 use borrow.Author.Needs.{needs}
 use Rattle.header.proofs.dsid.put_dsid.Statement.{statement}
 use Rattle.header.proofs.dsid.put_dsid.Tie as tie
-use Rattle.header.proofs.dsid.put_dsid.Reads as reads
-use Rattle.header.proofs.dsid.put_dsid.Lts as lts
-use Rattle.header.proofs.dsid.parts_of.Reads as parts-of-reads
-use Rattle.header.proofs.dsid.put_dated.Reads as put-dated-reads
 
 parts-of-requires : tie.Need-parts-of-requires
 parts-of-requires c κs = search needs

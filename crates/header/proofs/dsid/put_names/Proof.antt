@@ -3,10 +3,6 @@ use Rattle.header.proofs.PutLaws.{front-room, edition-room, update-room
 use borrow.Author.Needs.{needs}
 use Rattle.header.proofs.dsid.put_names.Statement.{statement}
 use Rattle.header.proofs.dsid.put_names.Tie as tie
-use Rattle.header.proofs.dsid.put_names.Reads as reads
-use Rattle.header.proofs.dsid.put_names.Lts as lts
-use Rattle.header.proofs.dsid.put_number.Reads as put-number-reads
-use Rattle.octets.proofs.area.copy.Reads as copy-reads
 
 copy-requires : tie.Need-copy-requires
 copy-requires c κs = search (needs, front-room)

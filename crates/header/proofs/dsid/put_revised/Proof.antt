@@ -3,10 +3,6 @@ use Rattle.header.proofs.PutLaws.{revised-room, revised-put}
 use borrow.Author.Needs.{needs}
 use Rattle.header.proofs.dsid.put_revised.Statement.{statement}
 use Rattle.header.proofs.dsid.put_revised.Tie as tie
-use Rattle.header.proofs.dsid.put_revised.Reads as reads
-use Rattle.header.proofs.dsid.put_revised.Lts as lts
-use Rattle.header.proofs.dsid.parts_of.Reads as parts-of-reads
-use Rattle.header.proofs.dsid.put_dated.Reads as put-dated-reads
 
 parts-of-requires : tie.Need-parts-of-requires
 parts-of-requires c κs = search needs

@@ -3,10 +3,6 @@ use Rattle.header.proofs.PutLaws.{size-with}
 use borrow.Author.Needs.{needs}
 use Rattle.header.proofs.dsid.size_with.Statement.{statement}
 use Rattle.header.proofs.dsid.size_with.Tie as tie
-use Rattle.header.proofs.dsid.size_with.Reads as reads
-use Rattle.header.proofs.dsid.size_with.Lts as lts
-use Rattle.header.proofs.dsid.parts_of.Reads as parts-of-reads
-use Rattle.octets.proofs.digits.fewest_digits.Reads as fewest-digits-reads
 
 parts-of-requires : tie.Need-parts-of-requires
 parts-of-requires c κs = search needs

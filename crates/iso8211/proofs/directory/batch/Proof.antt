@@ -10,9 +10,6 @@ use Rattle.iso8211.proofs.DirectoryLaws.{batch-more, batch-all, rows-no
 use borrow.Author.Needs.{needs}
 use Rattle.iso8211.proofs.directory.batch.Statement.{statement}
 use Rattle.iso8211.proofs.directory.batch.Tie as tie
-use Rattle.iso8211.proofs.directory.batch.Reads as reads
-use Rattle.iso8211.proofs.directory.batch.Lts as lts
-use Rattle.iso8211.proofs.directory.row_at.Reads as row-at-reads
 
 abbrev Inv-loop : tie.InvT-loop
 Inv-loop s l p i n out₀ at₀ k₀ out at k = (k ≤ n) × (length out ≡ 8) × (at ≡ i + k * rowWidth l p) × (take k out ≡ rows k s l p i)

@@ -3,8 +3,6 @@ use Rattle.iso8211.proofs.DirectoryLaws.{place-bad, short-bad, long-bad
 use borrow.Author.Needs.{needs}
 use Rattle.iso8211.proofs.directory.field_step.Statement.{statement}
 use Rattle.iso8211.proofs.directory.field_step.Tie as tie
-use Rattle.iso8211.proofs.directory.field_step.Reads as reads
-use Rattle.iso8211.proofs.directory.field_step.Lts as lts
 
 returns : tie.Need-returns
 returns c = search (needs, place-bad)

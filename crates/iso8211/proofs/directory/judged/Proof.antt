@@ -2,14 +2,11 @@
 use Prim.Native.Nat.{_≤_, _-_}
 use mathlib.Core.Path.{refl}
 use native.Mathlib.Omega.{arith}
-use lib.ListN.{length, take}
+use lib.ListN.{take}
 use Rattle.iso8211.proofs.DirectoryLaws.{Rowing, rowing-start, rowing-bad, rowing-on, rowing-end, step-most}
 use borrow.Author.Needs.{needs}
 use Rattle.iso8211.proofs.directory.judged.Statement.{statement}
 use Rattle.iso8211.proofs.directory.judged.Tie as tie
-use Rattle.iso8211.proofs.directory.judged.Reads as reads
-use Rattle.iso8211.proofs.directory.judged.Lts as lts
-use Rattle.iso8211.proofs.directory.field_step.Reads as field-step-reads
 
 abbrev Inv-loop : tie.InvT-loop
 Inv-loop s body size n due batch at₀ k₀ at k = (k ≤ n) × (at ≤ size) × Rowing s body size (take n batch) due k at

@@ -3,10 +3,6 @@ use Rattle.iso8211.proofs.DirectoryLaws.{row-is}
 use borrow.Author.Needs.{needs}
 use Rattle.iso8211.proofs.directory.row_at.Statement.{statement}
 use Rattle.iso8211.proofs.directory.row_at.Tie as tie
-use Rattle.iso8211.proofs.directory.row_at.Reads as reads
-use Rattle.iso8211.proofs.directory.row_at.Lts as lts
-use Rattle.iso8211.proofs.directory.tag_at.Reads as tag-at-reads
-use Rattle.octets.proofs.digits.get_digits.Reads as get-digits-reads
 
 tag-at-requires : tie.Need-tag-at-requires
 tag-at-requires c κs = search needs

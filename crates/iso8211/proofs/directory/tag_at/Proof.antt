@@ -1,13 +1,8 @@
-use mathlib.Core.Path.{ap}
 use Rattle.iso8211.proofs.DirectoryLaws.{tag-is}
 -- The four bytes, as they are read.
-use Rattle.iso8211.specs.Directory.{tagAt}
 use borrow.Author.Needs.{needs}
 use Rattle.iso8211.proofs.directory.tag_at.Statement.{statement}
 use Rattle.iso8211.proofs.directory.tag_at.Tie as tie
-use Rattle.iso8211.proofs.directory.tag_at.Reads as reads
-use Rattle.iso8211.proofs.directory.tag_at.Lts as lts
-use Rattle.octets.proofs.number.wide.Reads as wide-reads
 
 shared-slice-read-wide : tie.Need-shared-slice-read-wide
 shared-slice-read-wide c = search needs

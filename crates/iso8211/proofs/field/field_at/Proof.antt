@@ -4,10 +4,6 @@ use Rattle.iso8211.proofs.DirectoryLaws.{field-is}
 use borrow.Author.Needs.{needs}
 use Rattle.iso8211.proofs.field.field_at.Statement.{statement}
 use Rattle.iso8211.proofs.field.field_at.Tie as tie
-use Rattle.iso8211.proofs.field.field_at.Reads as reads
-use Rattle.iso8211.proofs.field.field_at.Lts as lts
-use Rattle.iso8211.proofs.directory.row_at.Reads as row-at-reads
-use Rattle.iso8211.proofs.field.row_place.Reads as row-place-reads
 
 row-place-requires : tie.Need-row-place-requires
 row-place-requires c κs = search needs

@@ -3,11 +3,6 @@ use Rattle.iso8211.proofs.DirectoryLaws.{field-on-is}
 use borrow.Author.Needs.{needs}
 use Rattle.iso8211.proofs.field.field_on.Statement.{statement}
 use Rattle.iso8211.proofs.field.field_on.Tie as tie
-use Rattle.iso8211.proofs.field.field_on.Reads as reads
-use Rattle.iso8211.proofs.field.field_on.Lts as lts
-use Rattle.iso8211.proofs.directory.tag_at.Reads as tag-at-reads
-use Rattle.iso8211.proofs.field.row_place.Reads as row-place-reads
-use Rattle.octets.proofs.digits.get_digits.Reads as get-digits-reads
 
 row-place-requires : tie.Need-row-place-requires
 row-place-requires c κs = search needs

@@ -1,13 +1,8 @@
-use mathlib.Core.Path.{ap, _∙_}
 use Rattle.iso8211.proofs.DirectoryLaws.{count-is}
 -- The numbers of the leader, read one by one.
 use borrow.Author.Needs.{needs}
 use Rattle.iso8211.proofs.field.head_of.Statement.{statement}
 use Rattle.iso8211.proofs.field.head_of.Tie as tie
-use Rattle.iso8211.proofs.field.head_of.Reads as reads
-use Rattle.iso8211.proofs.field.head_of.Lts as lts
-use Rattle.iso8211.proofs.record.digit_at.Reads as digit-at-reads
-use Rattle.octets.proofs.digits.get_digits.Reads as get-digits-reads
 
 add-get-digits : tie.Need-add-get-digits
 add-get-digits c = search needs

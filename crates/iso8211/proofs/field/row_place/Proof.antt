@@ -5,8 +5,6 @@ use mathlib.Core.Path.{refl}
 use borrow.Author.Needs.{needs}
 use Rattle.iso8211.proofs.field.row_place.Statement.{statement}
 use Rattle.iso8211.proofs.field.row_place.Tie as tie
-use Rattle.iso8211.proofs.field.row_place.Reads as reads
-use Rattle.iso8211.proofs.field.row_place.Lts as lts
 
 add-result : tie.Need-add-result
 add-result c = search needs

@@ -5,12 +5,8 @@ use native.Mathlib.Omega.{arith}
 use lib.ListN.{length}
 use Rattle.iso8211.specs.File.{frameOf, framedFrom}
 use Rattle.iso8211.proofs.FileLaws.{frame-start, frame-broken, frame-done, frame-past, frame-on}
-use borrow.Author.Needs.{needs}
 use Rattle.iso8211.proofs.file.frame.Statement.{statement}
 use Rattle.iso8211.proofs.file.frame.Tie as tie
-use Rattle.iso8211.proofs.file.frame.Reads as reads
-use Rattle.iso8211.proofs.file.frame.Lts as lts
-use Rattle.iso8211.proofs.record.good_end.Reads as good-end-reads
 
 abbrev Inv-loop : tie.InvT-loop
 Inv-loop file at₀ k₀ at k = (k ≤ at) × (at ≤ length file) × (frameOf file ≡ framedFrom (suc (length file - k)) file at k)

@@ -4,8 +4,6 @@ use Rattle.iso8211.specs.Leader.{kindGood}
 use borrow.Author.Needs.{needs}
 use Rattle.iso8211.proofs.leader.kind_good.Statement.{statement}
 use Rattle.iso8211.proofs.leader.kind_good.Tie as tie
-use Rattle.iso8211.proofs.leader.kind_good.Reads as reads
-use Rattle.iso8211.proofs.leader.kind_good.Lts as lts
 
 add-if2 : tie.Need-add-if2
 add-if2 c = search needs

@@ -5,10 +5,6 @@ use Rattle.iso8211.specs.Leader.{leaderGood}
 use borrow.Author.Needs.{needs}
 use Rattle.iso8211.proofs.leader.leader_good.Statement.{statement}
 use Rattle.iso8211.proofs.leader.leader_good.Tie as tie
-use Rattle.iso8211.proofs.leader.leader_good.Reads as reads
-use Rattle.iso8211.proofs.leader.leader_good.Lts as lts
-use Rattle.iso8211.proofs.leader.kind_good.Reads as kind-good-reads
-use Rattle.iso8211.proofs.leader.size_good.Reads as size-good-reads
 
 add-if1 : tie.Need-add-if1
 add-if1 c = search needs

@@ -4,8 +4,6 @@ use Rattle.iso8211.specs.Leader.{sizeGood}
 use borrow.Author.Needs.{needs}
 use Rattle.iso8211.proofs.leader.size_good.Statement.{statement}
 use Rattle.iso8211.proofs.leader.size_good.Tie as tie
-use Rattle.iso8211.proofs.leader.size_good.Reads as reads
-use Rattle.iso8211.proofs.leader.size_good.Lts as lts
 
 shared-slice-read-if1 : tie.Need-shared-slice-read-if1
 shared-slice-read-if1 c = search needs

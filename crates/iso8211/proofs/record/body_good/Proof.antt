@@ -7,9 +7,6 @@ use Rattle.iso8211.specs.Record.{bodyGood}
 use borrow.Author.Needs.{needs}
 use Rattle.iso8211.proofs.record.body_good.Statement.{statement}
 use Rattle.iso8211.proofs.record.body_good.Tie as tie
-use Rattle.iso8211.proofs.record.body_good.Reads as reads
-use Rattle.iso8211.proofs.record.body_good.Lts as lts
-use Rattle.iso8211.proofs.record.fields_good.Reads as fields-good-reads
 
 returns : tie.Need-returns
 unfolding bodyGood

@@ -8,11 +8,6 @@ use Rattle.iso8211.proofs.RecordLaws.{Left, left-start, left-bad, left-
 use borrow.Author.Needs.{needs}
 use Rattle.iso8211.proofs.record.fields_good.Statement.{statement}
 use Rattle.iso8211.proofs.record.fields_good.Tie as tie
-use Rattle.iso8211.proofs.record.fields_good.Reads as reads
-use Rattle.iso8211.proofs.record.fields_good.Lts as lts
-use Rattle.iso8211.proofs.directory.batch.Reads as batch-reads
-use Rattle.iso8211.proofs.directory.judged.Reads as judged-reads
-use Rattle.iso8211.proofs.record.batch_size.Reads as batch-size-reads
 
 abbrev Inv-loop : tie.InvT-loop
 Inv-loop s l p i count body size at₀ left₀ due₀ at left due = (due ≤ size) × (at + left * rowWidth l p ≤ length s) × Left s l p body size (inRow s body size (rows count s l p i) 0) left at due

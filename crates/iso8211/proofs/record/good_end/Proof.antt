@@ -4,12 +4,6 @@ use Rattle.iso8211.proofs.RecordLaws.{led, end-led, end-body, end-good,
 use borrow.Author.Needs.{needs}
 use Rattle.iso8211.proofs.record.good_end.Statement.{statement}
 use Rattle.iso8211.proofs.record.good_end.Tie as tie
-use Rattle.iso8211.proofs.record.good_end.Reads as reads
-use Rattle.iso8211.proofs.record.good_end.Lts as lts
-use Rattle.iso8211.proofs.leader.leader_good.Reads as leader-good-reads
-use Rattle.iso8211.proofs.record.body_good.Reads as body-good-reads
-use Rattle.iso8211.proofs.record.digit_at.Reads as digit-at-reads
-use Rattle.octets.proofs.digits.get_digits.Reads as get-digits-reads
 
 leader-good-requires : tie.Need-leader-good-requires
 leader-good-requires c κs = search needs

@@ -3,10 +3,6 @@ use Rattle.loader.proofs.AnswerLaws.{answer-other, answer-put, room-sec
 use borrow.Author.Needs.{needs}
 use Rattle.loader.proofs.answer.put_answer.Statement.{statement}
 use Rattle.loader.proofs.answer.put_answer.Tie as tie
-use Rattle.loader.proofs.answer.put_answer.Reads as reads
-use Rattle.loader.proofs.answer.put_answer.Lts as lts
-use Rattle.loader.proofs.answer.put_low.Reads as put-low-reads
-use Rattle.octets.proofs.number.put4.Reads as put4-reads
 
 returns : tie.Need-returns
 returns c = search (needs, answer-other)

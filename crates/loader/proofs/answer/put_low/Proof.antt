@@ -3,9 +3,6 @@ use Rattle.loader.proofs.AnswerLaws.{put-low}
 use borrow.Author.Needs.{needs}
 use Rattle.loader.proofs.answer.put_low.Statement.{statement}
 use Rattle.loader.proofs.answer.put_low.Tie as tie
-use Rattle.loader.proofs.answer.put_low.Reads as reads
-use Rattle.loader.proofs.answer.put_low.Lts as lts
-use Rattle.octets.proofs.number.put4.Reads as put4-reads
 
 cast-put4 : tie.Need-cast-put4
 cast-put4 c = search needs

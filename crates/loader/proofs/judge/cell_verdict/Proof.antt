@@ -4,10 +4,6 @@ use Rattle.reader.proofs.BothLaws.{lent}
 use borrow.Author.Needs.{needs}
 use Rattle.loader.proofs.judge.cell_verdict.Statement.{statement}
 use Rattle.loader.proofs.judge.cell_verdict.Tie as tie
-use Rattle.loader.proofs.judge.cell_verdict.Reads as reads
-use Rattle.loader.proofs.judge.cell_verdict.Lts as lts
-use Rattle.reader.proofs.fault.cell_fault.Reads as cell-fault-reads
-use Rattle.topology.proofs.topology_fault.Reads as topology-fault-reads
 
 cell-fault-requires : tie.Need-cell-fault-requires
 cell-fault-requires c κs = search (needs, lent)

@@ -7,11 +7,6 @@ use Rattle.loader.proofs.JudgeLaws.{judge-refused, judge-on}
 use borrow.Author.Needs.{needs}
 use Rattle.loader.proofs.judge.judge.Statement.{statement}
 use Rattle.loader.proofs.judge.judge.Tie as tie
-use Rattle.loader.proofs.judge.judge.Reads as reads
-use Rattle.loader.proofs.judge.judge.Lts as lts
-use Rattle.loader.proofs.judge.judged.Reads as judged-reads
-use Rattle.octets.proofs.area.clear.Reads as clear-reads
-use Rattle.reader.proofs.front.opened.Reads as opened-reads
 
 opened-requires : tie.Need-opened-requires
 opened-requires c κs = search needs

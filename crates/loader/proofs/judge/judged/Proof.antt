@@ -5,11 +5,6 @@ use Rattle.loader.proofs.JudgeLaws.{judged-work, judged-filed}
 use borrow.Author.Needs.{needs}
 use Rattle.loader.proofs.judge.judged.Statement.{statement}
 use Rattle.loader.proofs.judge.judged.Tie as tie
-use Rattle.loader.proofs.judge.judged.Reads as reads
-use Rattle.loader.proofs.judge.judged.Lts as lts
-use Rattle.loader.proofs.judge.cell_verdict.Reads as cell-verdict-reads
-use Rattle.reader.proofs.answer.answered.Reads as answered-reads
-use Rattle.reader.proofs.answer.filed.Reads as filed-reads
 
 mul-if1 : tie.Need-mul-if1
 mul-if1 c = omega (arith, few (c .before .before .pre))

@@ -9,14 +9,6 @@ use Rattle.iso8211.proofs.Promise.{framed-headed}
 use borrow.Author.Needs.{needs}
 use Rattle.names.proofs.collect.collect.Statement.{statement}
 use Rattle.names.proofs.collect.collect.Tie as tie
-use Rattle.names.proofs.collect.collect.Reads as reads
-use Rattle.names.proofs.collect.collect.Lts as lts
-use Rattle.iso8211.proofs.field.head_of.Reads as head-of-reads
-use Rattle.iso8211.proofs.field.record_end.Reads as record-end-reads
-use Rattle.items.proofs.identity.word_for.Reads as word-for-reads
-use Rattle.names.proofs.walk.first_item.Reads as first-item-reads
-use Rattle.names.proofs.walk.start_of.Reads as start-of-reads
-use Rattle.words.proofs.put.Reads as put-reads
 
 abbrev Inv-loop : tie.InvT-loop
 Inv-loop s n update area₀ first at₀ i₀ area at i = (i ≤ n - first) × (at ≡ recordAt s (first + i)) × Collected area₀ (wordsFrom i s (recordAt s first)) i area

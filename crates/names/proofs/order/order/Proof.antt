@@ -3,11 +3,6 @@ use Rattle.names.proofs.CollectLaws.{order-done}
 use borrow.Author.Needs.{needs}
 use Rattle.names.proofs.order.order.Statement.{statement}
 use Rattle.names.proofs.order.order.Tie as tie
-use Rattle.names.proofs.order.order.Reads as reads
-use Rattle.names.proofs.order.order.Lts as lts
-use Rattle.names.proofs.collect.collect.Reads as collect-reads
-use Rattle.names.proofs.walk.first_item.Reads as first-item-reads
-use Rattle.words.proofs.sort.Reads as sort-reads
 
 collect-requires : tie.Need-collect-requires
 collect-requires c κs = search needs

@@ -7,10 +7,6 @@ use Rattle.names.proofs.TwiceLaws.{pass-none, pass-start, pass-turn, pa
 use borrow.Author.Needs.{needs}
 use Rattle.names.proofs.twice.least_repeat.Statement.{statement}
 use Rattle.names.proofs.twice.least_repeat.Tie as tie
-use Rattle.names.proofs.twice.least_repeat.Reads as reads
-use Rattle.names.proofs.twice.least_repeat.Lts as lts
-use Rattle.names.proofs.twice.lower_of.Reads as lower-of-reads
-use Rattle.words.proofs.get.Reads as get-reads
 
 abbrev Inv-loop : tie.InvT-loop
 Inv-loop area m least₀ left₀ i₀ least left i = (i ≤ m) × (leastRepeat (wordsIn area 0 m) ≡ leastFrom least left (wordsIn area i (m - i)))

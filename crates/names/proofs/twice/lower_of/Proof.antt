@@ -1,11 +1,8 @@
 use Rattle.names.specs.Neighbours.{lower}
 -- By the two tests.
 use Rattle.octets.proofs.Tests.{tests}
-use borrow.Author.Needs.{needs}
 use Rattle.names.proofs.twice.lower_of.Statement.{statement}
 use Rattle.names.proofs.twice.lower_of.Tie as tie
-use Rattle.names.proofs.twice.lower_of.Reads as reads
-use Rattle.names.proofs.twice.lower_of.Lts as lts
 
 returns : tie.Need-returns
 unfolding lower

@@ -3,11 +3,6 @@ use Rattle.names.proofs.TwiceLaws.{twice-none, twice-inside, twice-is}
 use borrow.Author.Needs.{needs}
 use Rattle.names.proofs.twice.twice.Statement.{statement}
 use Rattle.names.proofs.twice.twice.Tie as tie
-use Rattle.names.proofs.twice.twice.Reads as reads
-use Rattle.names.proofs.twice.twice.Lts as lts
-use Rattle.names.proofs.twice.least_repeat.Reads as least-repeat-reads
-use Rattle.names.proofs.walk.first_item.Reads as first-item-reads
-use Rattle.names.proofs.walk.index_of.Reads as index-of-reads
 
 first-item-requires : tie.Need-first-item-requires
 first-item-requires c κs = search needs

@@ -1,11 +1,8 @@
 use Rattle.names.specs.Names.{firstItem}
 -- By the one test.
 use Rattle.octets.proofs.Tests.{tests}
-use borrow.Author.Needs.{needs}
 use Rattle.names.proofs.walk.first_item.Statement.{statement}
 use Rattle.names.proofs.walk.first_item.Tie as tie
-use Rattle.names.proofs.walk.first_item.Reads as reads
-use Rattle.names.proofs.walk.first_item.Lts as lts
 
 returns : tie.Need-returns
 unfolding firstItem

@@ -7,9 +7,6 @@ use Rattle.names.proofs.WalkLaws.{seek-below, seek-framed, seek-on, see
 use borrow.Author.Needs.{needs}
 use Rattle.names.proofs.walk.index_of.Statement.{statement}
 use Rattle.names.proofs.walk.index_of.Tie as tie
-use Rattle.names.proofs.walk.index_of.Reads as reads
-use Rattle.names.proofs.walk.index_of.Lts as lts
-use Rattle.iso8211.proofs.field.record_end.Reads as record-end-reads
 
 abbrev Inv-loop : tie.InvT-loop
 Inv-loop s n p at₀ k₀ at k = (k ≤ n) × (k ≤ at) × (at ≡ recordAt s k) × ((j : ℕ) → j < n → p ≡ recordAt s j → k ≤ j)

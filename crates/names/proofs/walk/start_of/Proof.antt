@@ -7,9 +7,6 @@ use Rattle.names.proofs.WalkLaws.{start-framed, start-done}
 use borrow.Author.Needs.{needs}
 use Rattle.names.proofs.walk.start_of.Statement.{statement}
 use Rattle.names.proofs.walk.start_of.Tie as tie
-use Rattle.names.proofs.walk.start_of.Reads as reads
-use Rattle.names.proofs.walk.start_of.Lts as lts
-use Rattle.iso8211.proofs.field.record_end.Reads as record-end-reads
 
 abbrev Inv-loop : tie.InvT-loop
 Inv-loop s n k at₀ i₀ at i = (i ≤ k) × (at ≡ recordAt s i)

@@ -1,19 +1,15 @@
 use borrow.Author.Fill.{fill-more}
 use Rattle.octets.proofs.AreaLaws.{clear-all}
 use native.Mathlib.Omega.{arith}
-use mathlib.Core.List.{append-nil}
-use lib.ListN.{length-set, drop-of-length-le}
-use lib.Seq.{drop-length}
+use lib.ListN.{length-set}
 -- What is cleared so far are i zeros in front of the rest as it was.
 use Prim.Native.Nat.{_≤_, _-_}
-use mathlib.Core.Path.{_≡_, ap, _∙_}
+use mathlib.Core.Path.{_≡_}
 use mathlib.Core.List.{_++_}
 use lib.ListN.{length, drop, replicate}
 use borrow.Author.Needs.{needs}
 use Rattle.octets.proofs.area.clear.Statement.{statement}
 use Rattle.octets.proofs.area.clear.Tie as tie
-use Rattle.octets.proofs.area.clear.Reads as reads
-use Rattle.octets.proofs.area.clear.Lts as lts
 
 abbrev Inv-loop : tie.InvT-loop
 Inv-loop area₀ i₀ area i = (i ≤ length area₀) × (length area ≡ length area₀) × (area ≡ replicate i 0 ++ drop i area₀)

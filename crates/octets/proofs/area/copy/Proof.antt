@@ -1,6 +1,5 @@
 use Rattle.octets.proofs.AreaLaws.{going-start, going-length, copy-more, copy-all}
 use native.Mathlib.Nat.{add-zero}
-use lib.ListN.{drop-of-length-le}
 use native.Mathlib.Omega.{arith}
 -- The invariant: of src, what stands from i on is still to be written.
 use Prim.Native.Nat.{_≤_, _-_, _+_}
@@ -9,8 +8,6 @@ use Rattle.octets.specs.Area.{Going}
 use borrow.Author.Needs.{needs}
 use Rattle.octets.proofs.area.copy.Statement.{statement}
 use Rattle.octets.proofs.area.copy.Tie as tie
-use Rattle.octets.proofs.area.copy.Reads as reads
-use Rattle.octets.proofs.area.copy.Lts as lts
 
 abbrev Inv-loop : tie.InvT-loop
 Inv-loop src area₀ at i₀ area i = (i ≤ length src) × Going area₀ at src area (at + i) (drop i src)

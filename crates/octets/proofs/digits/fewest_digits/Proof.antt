@@ -1,14 +1,12 @@
 use Rattle.octets.proofs.DigitsLaws.{fewest-more, fewest-one, fewest-some, fewest-most}
 use native.Mathlib.Omega.{arith}
 -- The invariant: the digits counted and those of what is left are the digits of v, and one.
-use Prim.Native.Nat.{_≤_, _-_, _+_}
+use Prim.Native.Nat.{_-_, _+_}
 use mathlib.Core.Path.{_≡_}
 use Rattle.octets.specs.Digits.{fewest}
 use borrow.Author.Needs.{needs}
 use Rattle.octets.proofs.digits.fewest_digits.Statement.{statement}
 use Rattle.octets.proofs.digits.fewest_digits.Tie as tie
-use Rattle.octets.proofs.digits.fewest_digits.Reads as reads
-use Rattle.octets.proofs.digits.fewest_digits.Lts as lts
 
 abbrev Inv-loop : tie.InvT-loop
 Inv-loop v left₀ n₀ left n = fewest v + 1 ≡ fewest left + n

@@ -7,9 +7,6 @@ use Rattle.octets.proofs.DigitsLaws.{digits-start, turn-low, turn-high,
 use borrow.Author.Needs.{needs}
 use Rattle.octets.proofs.digits.get_digits.Statement.{statement}
 use Rattle.octets.proofs.digits.get_digits.Tie as tie
-use Rattle.octets.proofs.digits.get_digits.Reads as reads
-use Rattle.octets.proofs.digits.get_digits.Lts as lts
-use Rattle.octets.proofs.number.wide.Reads as wide-reads
 
 abbrev Inv-loop : tie.InvT-loop
 Inv-loop s at n led₀ k₀ led k = (k ≤ n) × (led < 10 ^ k) × (numberAt s at n ≡ digitsFrom (n - k) s (at + k) led)

@@ -1,5 +1,5 @@
 use Rattle.octets.proofs.DigitsLaws.{digits-none, digits-more, digits-all, ten-less}
-use Rattle.octets.proofs.AreaLaws.{wrote-length, wrote-as}
+use Rattle.octets.proofs.AreaLaws.{wrote-length}
 use native.Mathlib.Omega.{arith}
 use native.Mathlib.Nat.{div-one}
 use mathlib.Core.Path.{sym, refl}
@@ -11,9 +11,6 @@ use Rattle.octets.specs.Area.{Wrote}
 use borrow.Author.Needs.{needs}
 use Rattle.octets.proofs.digits.put_digits.Statement.{statement}
 use Rattle.octets.proofs.digits.put_digits.Tie as tie
-use Rattle.octets.proofs.digits.put_digits.Reads as reads
-use Rattle.octets.proofs.digits.put_digits.Lts as lts
-use Rattle.octets.proofs.number.put1.Reads as put1-reads
 
 abbrev Inv-loop : tie.InvT-loop
 Inv-loop area₀ at w v left₀ c₀ area left c = (c ≤ w) × (left ≡ v / 10 ^ c) × Wrote area₀ (at + (w - c)) (digitsOf c v) area (at + w)

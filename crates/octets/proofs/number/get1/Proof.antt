@@ -3,8 +3,6 @@ use borrow.Author.Needs.{needs}
 use Rattle.octets.proofs.number.get1.Statement.{statement}
 use Rattle.octets.proofs.number.get1.Tie as tie
 use Rattle.octets.proofs.number.get1.Reads as reads
-use Rattle.octets.proofs.number.get1.Lts as lts
-use Rattle.octets.proofs.number.wide.Reads as wide-reads
 
 shared-slice-read-wide : tie.Need-shared-slice-read-wide
 shared-slice-read-wide c = search needs

@@ -3,8 +3,6 @@ use borrow.Author.Needs.{needs}
 use Rattle.octets.proofs.number.get2.Statement.{statement}
 use Rattle.octets.proofs.number.get2.Tie as tie
 use Rattle.octets.proofs.number.get2.Reads as reads
-use Rattle.octets.proofs.number.get2.Lts as lts
-use Rattle.octets.proofs.number.get1.Reads as get1-reads
 
 get1-requires : tie.Need-get1-requires
 get1-requires c κs = search needs

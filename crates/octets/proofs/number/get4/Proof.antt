@@ -3,8 +3,6 @@ use borrow.Author.Needs.{needs}
 use Rattle.octets.proofs.number.get4.Statement.{statement}
 use Rattle.octets.proofs.number.get4.Tie as tie
 use Rattle.octets.proofs.number.get4.Reads as reads
-use Rattle.octets.proofs.number.get4.Lts as lts
-use Rattle.octets.proofs.number.get2.Reads as get2-reads
 
 get2-requires : tie.Need-get2-requires
 get2-requires c κs = search needs

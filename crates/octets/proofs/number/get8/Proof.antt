@@ -3,8 +3,6 @@ use borrow.Author.Needs.{needs}
 use Rattle.octets.proofs.number.get8.Statement.{statement}
 use Rattle.octets.proofs.number.get8.Tie as tie
 use Rattle.octets.proofs.number.get8.Reads as reads
-use Rattle.octets.proofs.number.get8.Lts as lts
-use Rattle.octets.proofs.number.get4.Reads as get4-reads
 
 get4-requires : tie.Need-get4-requires
 get4-requires c κs = search needs

@@ -2,8 +2,6 @@ use Rattle.octets.proofs.NumberLaws.{wrote-byte}
 use borrow.Author.Needs.{needs}
 use Rattle.octets.proofs.number.put1.Statement.{statement}
 use Rattle.octets.proofs.number.put1.Tie as tie
-use Rattle.octets.proofs.number.put1.Reads as reads
-use Rattle.octets.proofs.number.put1.Lts as lts
 
 slice-write-area : tie.Need-slice-write-area
 slice-write-area c = search needs

@@ -4,9 +4,6 @@ use native.Mathlib.Omega.{arith}
 use borrow.Author.Needs.{needs}
 use Rattle.octets.proofs.number.put2.Statement.{statement}
 use Rattle.octets.proofs.number.put2.Tie as tie
-use Rattle.octets.proofs.number.put2.Reads as reads
-use Rattle.octets.proofs.number.put2.Lts as lts
-use Rattle.octets.proofs.number.put1.Reads as put1-reads
 
 cast-put1 : tie.Need-cast-put1
 cast-put1 c = search needs

@@ -3,9 +3,6 @@ use native.Mathlib.Omega.{arith}
 use borrow.Author.Needs.{needs}
 use Rattle.octets.proofs.number.put4.Statement.{statement}
 use Rattle.octets.proofs.number.put4.Tie as tie
-use Rattle.octets.proofs.number.put4.Reads as reads
-use Rattle.octets.proofs.number.put4.Lts as lts
-use Rattle.octets.proofs.number.put2.Reads as put2-reads
 
 put2-requires : tie.Need-put2-requires
 put2-requires c κs = search needs

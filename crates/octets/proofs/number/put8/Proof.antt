@@ -3,9 +3,6 @@ use native.Mathlib.Omega.{arith}
 use borrow.Author.Needs.{needs}
 use Rattle.octets.proofs.number.put8.Statement.{statement}
 use Rattle.octets.proofs.number.put8.Tie as tie
-use Rattle.octets.proofs.number.put8.Reads as reads
-use Rattle.octets.proofs.number.put8.Lts as lts
-use Rattle.octets.proofs.number.put4.Reads as put4-reads
 
 cast-put4 : tie.Need-cast-put4
 cast-put4 c = search needs

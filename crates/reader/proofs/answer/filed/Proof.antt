@@ -3,9 +3,6 @@ use Rattle.reader.proofs.FrontLaws.{filed-none, filed-some}
 use borrow.Author.Needs.{needs}
 use Rattle.reader.proofs.answer.filed.Statement.{statement}
 use Rattle.reader.proofs.answer.filed.Tie as tie
-use Rattle.reader.proofs.answer.filed.Reads as reads
-use Rattle.reader.proofs.answer.filed.Lts as lts
-use Rattle.reader.proofs.answer.answered.Reads as answered-reads
 
 answered-requires : tie.Need-answered-requires
 answered-requires c κs = search needs

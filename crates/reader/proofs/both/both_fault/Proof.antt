@@ -3,12 +3,6 @@ use Rattle.reader.proofs.BothLaws.{first-cell, first-update, both-none,
 use borrow.Author.Needs.{needs}
 use Rattle.reader.proofs.both.both_fault.Statement.{statement}
 use Rattle.reader.proofs.both.both_fault.Tie as tie
-use Rattle.reader.proofs.both.both_fault.Reads as reads
-use Rattle.reader.proofs.both.both_fault.Lts as lts
-use Rattle.reader.proofs.answer.filed.Reads as filed-reads
-use Rattle.reader.proofs.both.cell_from.Reads as cell-from-reads
-use Rattle.reader.proofs.both.less.Reads as less-reads
-use Rattle.reader.proofs.both.update_from.Reads as update-from-reads
 
 -- src/both.rt:54:9
 less-requires : tie.Need-less-requires

@@ -3,9 +3,6 @@ use Rattle.reader.proofs.BothLaws.{cell-placed}
 use borrow.Author.Needs.{needs}
 use Rattle.reader.proofs.both.cell_from.Statement.{statement}
 use Rattle.reader.proofs.both.cell_from.Tie as tie
-use Rattle.reader.proofs.both.cell_from.Reads as reads
-use Rattle.reader.proofs.both.cell_from.Lts as lts
-use Rattle.reader.proofs.fault.cell_fault.Reads as cell-fault-reads
 
 -- src/both.rt:33:16
 mul-from : tie.Need-mul-from

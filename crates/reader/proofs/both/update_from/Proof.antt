@@ -3,9 +3,6 @@ use Rattle.reader.proofs.BothLaws.{update-placed, part-front}
 use borrow.Author.Needs.{needs}
 use Rattle.reader.proofs.both.update_from.Statement.{statement}
 use Rattle.reader.proofs.both.update_from.Tie as tie
-use Rattle.reader.proofs.both.update_from.Reads as reads
-use Rattle.reader.proofs.both.update_from.Lts as lts
-use Rattle.reader.proofs.fault.update_fault.Reads as update-fault-reads
 
 -- src/both.rt:44:16
 mul-from : tie.Need-mul-from

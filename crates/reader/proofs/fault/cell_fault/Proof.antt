@@ -1,17 +1,10 @@
 -- Codes 4 to 6, then 7, then 8; without any of them the words are those that `repeated` left.
-use mathlib.Core.Bool.{true, false}
+use mathlib.Core.Bool.{false}
 use Rattle.iso8211.proofs.Promise.{framed-at, at-start, last-ends}
 use Rattle.reader.proofs.ReaderLaws.{readable, dssi-read, cell-read, cell-none, cell-twice, cell-counts, cell-fine, held-refused, held-words}
 use borrow.Author.Needs.{needs}
 use Rattle.reader.proofs.fault.cell_fault.Statement.{statement}
 use Rattle.reader.proofs.fault.cell_fault.Tie as tie
-use Rattle.reader.proofs.fault.cell_fault.Reads as reads
-use Rattle.reader.proofs.fault.cell_fault.Lts as lts
-use Rattle.chart.proofs.read.read_fault.Reads as read-fault-reads
-use Rattle.chart.proofs.read.refuse.Reads as refuse-reads
-use Rattle.iso8211.proofs.field.record_end.Reads as record-end-reads
-use Rattle.names.proofs.counts.counts_good.Reads as counts-good-reads
-use Rattle.reader.proofs.fault.repeated.Reads as repeated-reads
 
 read-fault-requires : tie.Need-read-fault-requires
 read-fault-requires c κs = search needs

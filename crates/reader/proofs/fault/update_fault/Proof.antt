@@ -1,14 +1,9 @@
 -- Codes 4 to 6, then 7; without any of them the words are those that `repeated` left.
-use mathlib.Core.Bool.{true, false}
+use mathlib.Core.Bool.{true}
 use Rattle.reader.proofs.ReaderLaws.{readable, update-read, update-none, update-twice, update-fine, come-refused, come-words}
 use borrow.Author.Needs.{needs}
 use Rattle.reader.proofs.fault.update_fault.Statement.{statement}
 use Rattle.reader.proofs.fault.update_fault.Tie as tie
-use Rattle.reader.proofs.fault.update_fault.Reads as reads
-use Rattle.reader.proofs.fault.update_fault.Lts as lts
-use Rattle.chart.proofs.read.read_fault.Reads as read-fault-reads
-use Rattle.chart.proofs.read.refuse.Reads as refuse-reads
-use Rattle.reader.proofs.fault.repeated.Reads as repeated-reads
 
 read-fault-requires : tie.Need-read-fault-requires
 read-fault-requires c κs = search needs

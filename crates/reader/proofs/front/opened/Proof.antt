@@ -3,11 +3,6 @@ use Rattle.reader.proofs.FrontLaws.{front-long, front-count, front-brok
 use borrow.Author.Needs.{needs}
 use Rattle.reader.proofs.front.opened.Statement.{statement}
 use Rattle.reader.proofs.front.opened.Tie as tie
-use Rattle.reader.proofs.front.opened.Reads as reads
-use Rattle.reader.proofs.front.opened.Lts as lts
-use Rattle.iso8211.proofs.file.frame.Reads as frame-reads
-use Rattle.reader.proofs.answer.answered.Reads as answered-reads
-use Rattle.reader.proofs.front.place.Reads as place-reads
 
 answered-requires : tie.Need-answered-requires
 answered-requires c κs = search needs

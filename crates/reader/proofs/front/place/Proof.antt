@@ -1,6 +1,6 @@
 -- The invariant: record j starts at `at`.
 use Prim.Native.Nat.{_≤_, _-_}
-use mathlib.Core.Path.{_≡_, _∙_}
+use mathlib.Core.Path.{_≡_}
 use native.Mathlib.Omega.{arith}
 use Rattle.iso8211.specs.File.{recordAt}
 use Rattle.iso8211.proofs.Promise.{at-start, at-on}
@@ -8,9 +8,6 @@ use Rattle.reader.proofs.FrontLaws.{place-framed, place-end}
 use borrow.Author.Needs.{needs}
 use Rattle.reader.proofs.front.place.Statement.{statement}
 use Rattle.reader.proofs.front.place.Tie as tie
-use Rattle.reader.proofs.front.place.Reads as reads
-use Rattle.reader.proofs.front.place.Lts as lts
-use Rattle.iso8211.proofs.field.record_end.Reads as record-end-reads
 
 abbrev Inv-loop : tie.InvT-loop
 Inv-loop s k at₀ j₀ at j = (j ≤ k) × (at ≡ recordAt s j)

@@ -5,10 +5,6 @@ use Rattle.reader.proofs.BothLaws.{both-opened, checked-both}
 use borrow.Author.Needs.{needs}
 use Rattle.reader.proofs.read.both_checked.Statement.{statement}
 use Rattle.reader.proofs.read.both_checked.Tie as tie
-use Rattle.reader.proofs.read.both_checked.Reads as reads
-use Rattle.reader.proofs.read.both_checked.Lts as lts
-use Rattle.reader.proofs.answer.answered.Reads as answered-reads
-use Rattle.reader.proofs.both.both_fault.Reads as both-fault-reads
 
 -- src/read.rt:50:27
 add-if1 : tie.Need-add-if1

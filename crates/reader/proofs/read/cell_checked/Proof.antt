@@ -4,11 +4,6 @@ use Rattle.reader.proofs.CallLaws.{few, checked-work, checked-filed}
 use borrow.Author.Needs.{needs}
 use Rattle.reader.proofs.read.cell_checked.Statement.{statement}
 use Rattle.reader.proofs.read.cell_checked.Tie as tie
-use Rattle.reader.proofs.read.cell_checked.Reads as reads
-use Rattle.reader.proofs.read.cell_checked.Lts as lts
-use Rattle.reader.proofs.answer.answered.Reads as answered-reads
-use Rattle.reader.proofs.answer.filed.Reads as filed-reads
-use Rattle.reader.proofs.fault.cell_fault.Reads as cell-fault-reads
 
 mul-if1 : tie.Need-mul-if1
 mul-if1 c = omega (arith, few (c .before .before .pre))

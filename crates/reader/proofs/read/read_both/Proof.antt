@@ -6,11 +6,6 @@ use Rattle.reader.proofs.CallLaws.{counted, both-refused, both-read-on}
 use borrow.Author.Needs.{needs}
 use Rattle.reader.proofs.read.read_both.Statement.{statement}
 use Rattle.reader.proofs.read.read_both.Tie as tie
-use Rattle.reader.proofs.read.read_both.Reads as reads
-use Rattle.reader.proofs.read.read_both.Lts as lts
-use Rattle.octets.proofs.area.clear.Reads as clear-reads
-use Rattle.reader.proofs.front.opened.Reads as opened-reads
-use Rattle.reader.proofs.read.update_opened.Reads as update-opened-reads
 
 opened-requires : tie.Need-opened-requires
 opened-requires c κs = search needs

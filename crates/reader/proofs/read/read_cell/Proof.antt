@@ -6,11 +6,6 @@ use Rattle.reader.proofs.CallLaws.{counted, cell-refused, cell-read-on}
 use borrow.Author.Needs.{needs}
 use Rattle.reader.proofs.read.read_cell.Statement.{statement}
 use Rattle.reader.proofs.read.read_cell.Tie as tie
-use Rattle.reader.proofs.read.read_cell.Reads as reads
-use Rattle.reader.proofs.read.read_cell.Lts as lts
-use Rattle.octets.proofs.area.clear.Reads as clear-reads
-use Rattle.reader.proofs.front.opened.Reads as opened-reads
-use Rattle.reader.proofs.read.cell_checked.Reads as cell-checked-reads
 
 opened-requires : tie.Need-opened-requires
 opened-requires c κs = search needs

@@ -3,10 +3,6 @@ use Rattle.reader.proofs.CallLaws.{counted, update-refused, update-coun
 use borrow.Author.Needs.{needs}
 use Rattle.reader.proofs.read.update_opened.Statement.{statement}
 use Rattle.reader.proofs.read.update_opened.Tie as tie
-use Rattle.reader.proofs.read.update_opened.Reads as reads
-use Rattle.reader.proofs.read.update_opened.Lts as lts
-use Rattle.reader.proofs.front.opened.Reads as opened-reads
-use Rattle.reader.proofs.read.both_checked.Reads as both-checked-reads
 
 opened-requires : tie.Need-opened-requires
 opened-requires c κs = search needs

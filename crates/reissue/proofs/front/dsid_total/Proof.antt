@@ -3,11 +3,6 @@ use Rattle.reissue.proofs.FrontLaws.{lent-known, dsid-sized}
 use borrow.Author.Needs.{needs}
 use Rattle.reissue.proofs.front.dsid_total.Statement.{statement}
 use Rattle.reissue.proofs.front.dsid_total.Tie as tie
-use Rattle.reissue.proofs.front.dsid_total.Reads as reads
-use Rattle.reissue.proofs.front.dsid_total.Lts as lts
-use Rattle.header.proofs.dsid.dsid_size.Reads as dsid-size-reads
-use Rattle.reissue.proofs.front.content.Reads as content-reads
-use Rattle.reissue.proofs.front.total_of.Reads as total-of-reads
 
 content-requires : tie.Need-content-requires
 content-requires c κs = search needs

@@ -3,13 +3,6 @@ use Rattle.reissue.proofs.FrontLaws.{lent-known, dsid-opening-room, dsi
 use borrow.Author.Needs.{needs}
 use Rattle.reissue.proofs.front.put_dsid_record.Statement.{statement}
 use Rattle.reissue.proofs.front.put_dsid_record.Tie as tie
-use Rattle.reissue.proofs.front.put_dsid_record.Reads as reads
-use Rattle.reissue.proofs.front.put_dsid_record.Lts as lts
-use Rattle.header.proofs.dsid.dsid_size.Reads as dsid-size-reads
-use Rattle.reissue.proofs.front.content.Reads as content-reads
-use Rattle.reissue.proofs.front.put_counts.Reads as put-counts-reads
-use Rattle.reissue.proofs.front.put_named.Reads as put-named-reads
-use Rattle.reissue.proofs.front.put_opening.Reads as put-opening-reads
 
 content-requires : tie.Need-content-requires
 content-requires c κs = search needs

@@ -3,11 +3,6 @@ use Rattle.reissue.proofs.FrontLaws.{opening-head, opening-first, openi
 use borrow.Author.Needs.{needs}
 use Rattle.reissue.proofs.front.put_opening.Statement.{statement}
 use Rattle.reissue.proofs.front.put_opening.Tie as tie
-use Rattle.reissue.proofs.front.put_opening.Reads as reads
-use Rattle.reissue.proofs.front.put_opening.Lts as lts
-use Rattle.records.proofs.head.put_head.Reads as put-head-reads
-use Rattle.reissue.proofs.front.dsid_rows.Reads as dsid-rows-reads
-use Rattle.reissue.proofs.front.put_number.Reads as put-number-reads
 
 dsid-rows-requires : tie.Need-dsid-rows-requires
 dsid-rows-requires c κs = search needs

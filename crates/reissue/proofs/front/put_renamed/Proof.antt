@@ -3,10 +3,6 @@ use Rattle.reissue.proofs.FrontLaws.{ended}
 use borrow.Author.Needs.{needs}
 use Rattle.reissue.proofs.front.put_renamed.Statement.{statement}
 use Rattle.reissue.proofs.front.put_renamed.Tie as tie
-use Rattle.reissue.proofs.front.put_renamed.Reads as reads
-use Rattle.reissue.proofs.front.put_renamed.Lts as lts
-use Rattle.header.proofs.dsid.put_revised.Reads as put-revised-reads
-use Rattle.octets.proofs.number.put1.Reads as put1-reads
 
 put-revised-requires : tie.Need-put-revised-requires
 put-revised-requires c κs = search needs

@@ -3,13 +3,6 @@ use Rattle.reissue.proofs.FrontLaws.{lent-known, revised-opening-room, 
 use borrow.Author.Needs.{needs}
 use Rattle.reissue.proofs.front.put_revised_record.Statement.{statement}
 use Rattle.reissue.proofs.front.put_revised_record.Tie as tie
-use Rattle.reissue.proofs.front.put_revised_record.Reads as reads
-use Rattle.reissue.proofs.front.put_revised_record.Lts as lts
-use Rattle.header.proofs.dsid.revised_size.Reads as revised-size-reads
-use Rattle.reissue.proofs.front.content.Reads as content-reads
-use Rattle.reissue.proofs.front.put_counts.Reads as put-counts-reads
-use Rattle.reissue.proofs.front.put_opening.Reads as put-opening-reads
-use Rattle.reissue.proofs.front.put_renamed.Reads as put-renamed-reads
 
 content-requires : tie.Need-content-requires
 content-requires c κs = search needs

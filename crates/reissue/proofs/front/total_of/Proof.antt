@@ -3,10 +3,6 @@ use Rattle.reissue.proofs.FrontLaws.{total-of}
 use borrow.Author.Needs.{needs}
 use Rattle.reissue.proofs.front.total_of.Statement.{statement}
 use Rattle.reissue.proofs.front.total_of.Tie as tie
-use Rattle.reissue.proofs.front.total_of.Reads as reads
-use Rattle.reissue.proofs.front.total_of.Lts as lts
-use Rattle.records.proofs.head.base_of.Reads as base-of-reads
-use Rattle.reissue.proofs.front.dsid_rows.Reads as dsid-rows-reads
 
 dsid-rows-requires : tie.Need-dsid-rows-requires
 dsid-rows-requires c κs = search needs

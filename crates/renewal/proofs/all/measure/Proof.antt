@@ -1,7 +1,6 @@
 -- The invariant: the sum so far and the size of the records that are left is the size of all; so with the longest.
-use Prim.Native.Nat.{_+_, _-_, _≤_}
+use Prim.Native.Nat.{_-_, _≤_}
 use mathlib.Core.Path.{_≡_}
-use native.Mathlib.Omega.{arith}
 use lib.ListN.{length}
 use Rattle.merge.specs.Places.{placesFrom}
 use Rattle.result.specs.Able.{AllAble, Rooms}

@@ -2,9 +2,6 @@ use borrow.Author.Needs.{needs}
 use Rattle.result.proofs.EditedLaws.{edited-able, edited-stood}
 use Rattle.result.proofs.item.edited.Statement.{statement}
 use Rattle.result.proofs.item.edited.Tie as tie
-use Rattle.result.proofs.item.edited.Reads as reads
-use Rattle.result.proofs.item.edited.Lts as lts
-use Rattle.rebuild.proofs.record.put_edited_record.Reads as put-edited-record-reads
 
 -- src/item.rt:31:5
 put-edited-record-requires : tie.Need-put-edited-record-requires

@@ -4,11 +4,6 @@ use Rattle.topology.proofs.NotesLaws.{Filed, filed-start, filed-stands,
 use borrow.Author.Needs.{needs}
 use Rattle.topology.proofs.note.put_notes.Statement.{statement}
 use Rattle.topology.proofs.note.put_notes.Tie as tie
-use Rattle.topology.proofs.note.put_notes.Reads as reads
-use Rattle.topology.proofs.note.put_notes.Lts as lts
-use Rattle.topology.proofs.note.note_of.Reads as note-of-reads
-use Rattle.words.proofs.get.Reads as get-reads
-use Rattle.words.proofs.put.Reads as put-reads
 
 abbrev Inv-loop : tie.InvT-loop
 Inv-loop s work₀ m i₀ work i = (i ≤ m) × Filed s work₀ m i work
