@@ -10,3 +10,4 @@ pub mod Wrong
 pub mod Demand2
 pub mod Offered
 pub mod Units
+pub mod Shown
