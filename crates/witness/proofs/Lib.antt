@@ -12,3 +12,4 @@ pub mod Demand2
 pub mod Offered
 pub mod Units
 pub mod Premise
+pub mod Shown
