@@ -1,3 +1,4 @@
+-- Refused at once, or applied to the end; the work area is cleared in both. Assumes nothing.
 use Rattle.apply.proofs.ApplyLaws.{apply-refused, apply-kept, apply-on, apply-area}
 use Rattle.reader.proofs.CallLaws.{counted}
 use lib.ListN.{replicate}
@@ -7,47 +8,36 @@ use borrow.Author.Needs.{needs}
 use Rattle.apply.proofs.apply.Statement.{statement}
 use Rattle.apply.proofs.apply.Tie as tie
 
--- src/lib.rt:39:9
 opened-requires : tie.Need-opened-requires
 opened-requires c κs = search needs
 
--- src/lib.rt:41:24
 enum-known-front : tie.Need-enum-known-front
 enum-known-front c = search needs
 
--- src/lib.rt:42:13
 clear-requires : tie.Need-clear-requires
 clear-requires c κs = search needs
 
--- src/lib.rt:45:22
 enum-known-front-2 : tie.Need-enum-known-front-2
 enum-known-front-2 c = search needs
 
--- src/lib.rt:46:17
 update-opened-requires : tie.Need-update-opened-requires
 update-opened-requires c κs = counted 1 _ _ _ (c .before .before .before .before .before .opened .ensures) (search needs)
 
--- src/lib.rt:47:13
 clear-requires-2 : tie.Need-clear-requires-2
 clear-requires-2 c κs = search needs
 
--- src/lib.rt:34:1
 same-length : tie.Need-same-length
 same-length c = search needs
 
--- src/lib.rt:34:1
 returns : tie.Need-returns
 returns c = (apply-refused _ _ _ _ (c .before .before .before .before .before .before .before .opened .ensures) _ _ (search needs), (apply-kept _ _ _ _ (c .before .before .before .before .before .before .before .opened .ensures) _ (c .before .before .before .before .before .front .given .0 .0) (search needs), c .before .before .clear .ensures))
 
--- src/lib.rt:34:1
 same-length-2 : tie.Need-same-length-2
 same-length-2 c = search needs
 
--- src/lib.rt:34:1
 same-length-3 : tie.Need-same-length-3
 same-length-3 c = search needs
 
--- src/lib.rt:34:1
 returns-2 : tie.Need-returns-2
 returns-2 c = (apply-on _ _ _ _ (c .before .before .before .before .before .before .before .before .before .before .before .before .before .before .opened .ensures) (c .before .before .before .before .before .before .before .before .before .before .before .before .front2 .given .0 .0) (search needs) _ _ (c .before .before .before .before .before .before .before .before .update-opened .ensures .0), (apply-area _ _ _ _ (c .before .before .before .before .before .before .before .before .before .before .before .before .before .before .opened .ensures) (c .before .before .before .before .before .before .before .before .before .before .before .before .front2 .given .0 .0) (search needs) _ _ (c .before .before .before .before .before .before .before .before .update-opened .ensures .1), c .before .before .clear2 .ensures ∙ ap (λ (k : ℕ). replicate k 0) (c .before .before .before .before .before .before .before .before .update-opened .kept .1 .1 .1 .1 .0)))
 

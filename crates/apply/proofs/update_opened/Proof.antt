@@ -1,38 +1,31 @@
+-- Refused at once, or applied to the end. Assumes nothing.
 use Rattle.apply.proofs.ApplyLaws.{second-refused, second-kept, second-on, second-area}
 use Rattle.reader.proofs.CallLaws.{counted}
 use borrow.Author.Needs.{needs}
 use Rattle.apply.proofs.update_opened.Statement.{statement}
 use Rattle.apply.proofs.update_opened.Tie as tie
 
--- src/lib.rt:25:9
 opened-requires : tie.Need-opened-requires
 opened-requires c κs = search needs
 
--- src/lib.rt:27:24
 enum-known-front : tie.Need-enum-known-front
 enum-known-front c = search needs
 
--- src/lib.rt:28:22
 enum-known-front-2 : tie.Need-enum-known-front-2
 enum-known-front-2 c = search needs
 
--- src/lib.rt:28:28
 applied-requires : tie.Need-applied-requires
 applied-requires c κs = (c .before .before .before .before .before .before .before .before .before .before .pre, counted 2 _ _ _ (c .before .before .before .before .before .opened .ensures) (search needs))
 
--- src/lib.rt:20:1
 returns : tie.Need-returns
 returns c = (second-refused _ _ _ _ _ (c .before .before .before .opened .ensures) _ _ (search needs), second-kept _ _ _ _ _ (c .before .before .before .opened .ensures) _ (c .before .front .given .0 .0) (search needs))
 
--- src/lib.rt:20:1
 same-length : tie.Need-same-length
 same-length c = search needs
 
--- src/lib.rt:20:1
 same-length-2 : tie.Need-same-length-2
 same-length-2 c = search needs
 
--- src/lib.rt:20:1
 returns-2 : tie.Need-returns-2
 returns-2 c = (second-on _ _ _ _ _ (c .before .before .before .before .before .before .before .before .before .before .opened .ensures) (c .before .before .before .before .before .before .before .before .front2 .given .0 .0) (search needs) _ _ (c .before .before .before .before .applied .ensures .0), second-area _ _ _ _ _ (c .before .before .before .before .before .before .before .before .before .before .opened .ensures) (c .before .before .before .before .before .before .before .before .front2 .given .0 .0) (search needs) _ _ _ (c .before .before .before .before .applied .ensures .0) (c .before .before .before .before .applied .ensures .1))
 

@@ -3,27 +3,21 @@ use Rattle.amend.proofs.ControlLaws.{chosen-points, chosen-objects, cho
 use Rattle.amend.proofs.control.control_for.Statement.{statement}
 use Rattle.amend.proofs.control.control_for.Tie as tie
 
--- src/control.rt:71:9
 returns : tie.Need-returns
 returns c = (search (needs, chosen-points), search needs)
 
--- src/control.rt:74:9
 returns-2 : tie.Need-returns-2
 returns-2 c = (search (needs, chosen-objects), search needs)
 
--- src/control.rt:77:9
 returns-3 : tie.Need-returns-3
 returns-3 c = (search (needs, chosen-spatial), search needs)
 
--- src/control.rt:80:9
 returns-4 : tie.Need-returns-4
 returns-4 c = (search (needs, chosen-coordinates), search needs)
 
--- src/control.rt:82:5
 no-control-requires : tie.Need-no-control-requires
 no-control-requires c κs = search needs
 
--- src/control.rt:66:1
 returns-5 : tie.Need-returns-5
 returns-5 c = (search (needs, chosen-none), search needs)
 

@@ -3,27 +3,21 @@ use Rattle.amend.proofs.RuleLaws.{second-feature, second-vector}
 use Rattle.amend.proofs.control.second_of.Statement.{statement}
 use Rattle.amend.proofs.control.second_of.Tie as tie
 
--- src/rule.rt:56:9
 control-of-requires : tie.Need-control-of-requires
 control-of-requires c κs = search needs
 
--- src/rule.rt:56:9
 same-length : tie.Need-same-length
 same-length c = search needs
 
--- src/rule.rt:56:9
 returns : tie.Need-returns
 returns c = (search (needs, second-feature), search needs)
 
--- src/rule.rt:58:5
 control-of-requires-2 : tie.Need-control-of-requires-2
 control-of-requires-2 c κs = search needs
 
--- src/rule.rt:50:1
 same-length-2 : tie.Need-same-length-2
 same-length-2 c = search needs
 
--- src/rule.rt:50:1
 returns-2 : tie.Need-returns-2
 returns-2 c = (search (needs, second-vector), search needs)
 

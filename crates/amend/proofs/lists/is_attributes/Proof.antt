@@ -3,17 +3,14 @@ use Rattle.chart.specs.Value.{isAttributes}
 use Rattle.amend.proofs.lists.is_attributes.Statement.{statement}
 use Rattle.amend.proofs.lists.is_attributes.Tie as tie
 
--- src/lists.rt:18:9
 returns : tie.Need-returns
 unfolding isAttributes
 returns c = search tests
 
--- src/lists.rt:21:9
 returns-2 : tie.Need-returns-2
 unfolding isAttributes
 returns-2 c = search tests
 
--- src/lists.rt:14:1
 returns-3 : tie.Need-returns-3
 unfolding isAttributes
 returns-3 c = search tests

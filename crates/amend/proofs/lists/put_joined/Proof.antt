@@ -3,87 +3,66 @@ use Rattle.amend.proofs.EditLaws.{ready-labels, ready-two, put-labels, 
 use Rattle.amend.proofs.lists.put_joined.Statement.{statement}
 use Rattle.amend.proofs.lists.put_joined.Tie as tie
 
--- src/lists.rt:85:8
 is-attributes-requires : tie.Need-is-attributes-requires
 is-attributes-requires c κs = search needs
 
--- src/lists.rt:86:31
 sub-put-attributes : tie.Need-sub-put-attributes
 sub-put-attributes c = search needs
 
--- src/lists.rt:86:31
 part-put-attributes-start : tie.Need-part-put-attributes-start
 part-put-attributes-start c = search needs
 
--- src/lists.rt:86:31
 part-put-attributes-end : tie.Need-part-put-attributes-end
 part-put-attributes-end c = search needs
 
--- src/lists.rt:86:50
 sub-put-attributes-2 : tie.Need-sub-put-attributes-2
 sub-put-attributes-2 c = search needs
 
--- src/lists.rt:86:50
 part-put-attributes-start-2 : tie.Need-part-put-attributes-start-2
 part-put-attributes-start-2 c = search needs
 
--- src/lists.rt:86:50
 part-put-attributes-end-2 : tie.Need-part-put-attributes-end-2
 part-put-attributes-end-2 c = search needs
 
--- src/lists.rt:86:9
 put-attributes-requires : tie.Need-put-attributes-requires
 put-attributes-requires c κs = (search (needs, ready-labels), search needs, search needs)
 
--- src/lists.rt:86:9
 same-length : tie.Need-same-length
 same-length c = search needs
 
--- src/lists.rt:86:9
 same-length-2 : tie.Need-same-length-2
 same-length-2 c = search needs
 
--- src/lists.rt:86:9
 returns : tie.Need-returns
 returns c = (search (needs, put-labels), search needs)
 
--- src/lists.rt:88:9
 shape-of-requires : tie.Need-shape-of-requires
 shape-of-requires c κs = search needs
 
--- src/lists.rt:89:17
 sub-put-spliced : tie.Need-sub-put-spliced
 sub-put-spliced c = search needs
 
--- src/lists.rt:89:17
 part-put-spliced-start : tie.Need-part-put-spliced-start
 part-put-spliced-start c = search needs
 
--- src/lists.rt:89:17
 part-put-spliced-end : tie.Need-part-put-spliced-end
 part-put-spliced-end c = search needs
 
--- src/lists.rt:89:36
 sub-put-spliced-2 : tie.Need-sub-put-spliced-2
 sub-put-spliced-2 c = search needs
 
--- src/lists.rt:89:36
 part-put-spliced-start-2 : tie.Need-part-put-spliced-start-2
 part-put-spliced-start-2 c = search needs
 
--- src/lists.rt:89:36
 part-put-spliced-end-2 : tie.Need-part-put-spliced-end-2
 part-put-spliced-end-2 c = search needs
 
--- src/lists.rt:89:5
 put-spliced-requires : tie.Need-put-spliced-requires
 put-spliced-requires c κs = (search (needs, ready-two), search needs, search needs)
 
--- src/lists.rt:67:1
 same-length-3 : tie.Need-same-length-3
 same-length-3 c = search needs
 
--- src/lists.rt:67:1
 returns-2 : tie.Need-returns-2
 returns-2 c = (search (needs, put-control), search needs)
 

@@ -3,27 +3,21 @@ use Rattle.amend.proofs.RuleLaws.{plan-picked}
 use Rattle.amend.proofs.lists.put_kind.Statement.{statement}
 use Rattle.amend.proofs.lists.put_kind.Tie as tie
 
--- src/lists.rt:148:9
 control-for-requires : tie.Need-control-for-requires
 control-for-requires c κs = search needs
 
--- src/lists.rt:149:5
 put-edited-requires : tie.Need-put-edited-requires
 put-edited-requires c κs = (search needs, search needs, search needs, search (needs, plan-picked), search needs, search needs)
 
--- src/lists.rt:124:1
 same-length : tie.Need-same-length
 same-length c = search needs
 
--- src/lists.rt:124:1
 same-length-2 : tie.Need-same-length-2
 same-length-2 c = search needs
 
--- src/lists.rt:124:1
 same-length-3 : tie.Need-same-length-3
 same-length-3 c = search needs
 
--- src/lists.rt:124:1
 returns : tie.Need-returns
 returns c = search needs
 

@@ -3,19 +3,15 @@ use Rattle.amend.proofs.SidesLaws.{sides-second, sides-put}
 use Rattle.amend.proofs.lists.put_sides.Statement.{statement}
 use Rattle.amend.proofs.lists.put_sides.Tie as tie
 
--- src/lists.rt:47:9
 put-list-requires : tie.Need-put-list-requires
 put-list-requires c κs = search needs
 
--- src/lists.rt:48:9
 put-list-requires-2 : tie.Need-put-list-requires-2
 put-list-requires-2 c κs = (search needs, search needs, search (needs, sides-second))
 
--- src/lists.rt:33:1
 same-length : tie.Need-same-length
 same-length c = search needs
 
--- src/lists.rt:33:1
 returns : tie.Need-returns
 returns c = search (needs, sides-put)
 

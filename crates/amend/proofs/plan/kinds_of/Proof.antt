@@ -3,11 +3,9 @@ use Rattle.amend.proofs.RuleLaws.{kinds-feature, kinds-vector, feature-
 use Rattle.amend.proofs.plan.kinds_of.Statement.{statement}
 use Rattle.amend.proofs.plan.kinds_of.Tie as tie
 
--- src/rule.rt:32:9
 returns : tie.Need-returns
 returns c = (search (needs, kinds-feature), feature-four)
 
--- src/rule.rt:28:1
 returns-2 : tie.Need-returns-2
 returns-2 c = (search (needs, kinds-vector), vector-four)
 

@@ -3,27 +3,21 @@ use Rattle.amend.proofs.RuleLaws.{class-same, planned-for}
 use Rattle.amend.proofs.plan.plan_of.Statement.{statement}
 use Rattle.amend.proofs.plan.plan_of.Tie as tie
 
--- src/plan.rt:45:9
 rcnm-of-requires : tie.Need-rcnm-of-requires
 rcnm-of-requires c κs = search needs
 
--- src/plan.rt:46:9
 kinds-of-requires : tie.Need-kinds-of-requires
 kinds-of-requires c κs = search needs
 
--- src/plan.rt:47:9
 coordinates-of-requires : tie.Need-coordinates-of-requires
 coordinates-of-requires c κs = search needs
 
--- src/plan.rt:48:9
 controls-of-requires : tie.Need-controls-of-requires
 controls-of-requires c κs = (search needs, search needs, search (needs, class-same), search needs, search needs, search needs, search needs, search needs)
 
--- src/plan.rt:33:1
 same-length : tie.Need-same-length
 same-length c = search needs
 
--- src/plan.rt:33:1
 returns : tie.Need-returns
 returns c = search (needs, planned-for)
 

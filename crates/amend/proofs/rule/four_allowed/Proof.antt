@@ -18,63 +18,48 @@ Inv-loop cell at hc update by hu plan join₀ table₀ room₀ kinds i₀ join t
 abbrev μ-loop : tie.MeasureT-loop
 μ-loop cell at hc update by hu plan join₀ table₀ room₀ kinds i₀ join table room i = 4 - i
 
--- src/rule.rt:68:5
 loop-holds : tie.Need-loop-holds Inv-loop μ-loop
 loop-holds c = search needs
 
--- src/rule.rt:69:17
 mul-k : tie.Need-mul-k Inv-loop μ-loop
 mul-k c = search needs
 
--- src/rule.rt:69:17
 array-read-k : tie.Need-array-read-k Inv-loop μ-loop
 array-read-k c = search needs
 
--- src/rule.rt:70:13
 kind-allowed-requires : tie.Need-kind-allowed-requires Inv-loop μ-loop
 kind-allowed-requires c κs = (search needs, search needs, search needs, search needs, search (needs, four-kind), search needs, search needs)
 
--- src/rule.rt:71:13
 same-length : tie.Need-same-length Inv-loop μ-loop
 same-length c = search needs
 
--- src/rule.rt:71:13
 same-length-2 : tie.Need-same-length-2 Inv-loop μ-loop
 same-length-2 c = search needs
 
--- src/rule.rt:71:13
 same-length-3 : tie.Need-same-length-3 Inv-loop μ-loop
 same-length-3 c = search needs
 
--- src/rule.rt:71:13
 returns : tie.Need-returns Inv-loop μ-loop
 returns c = (search (needs, four-no), search needs)
 
--- src/rule.rt:73:9
 add-i : tie.Need-add-i Inv-loop μ-loop
 add-i c = search needs
 
--- src/rule.rt:68:5
 loop-less : tie.Need-loop-less Inv-loop μ-loop
 loop-less c = search needs
 
--- src/rule.rt:68:5
 loop-again : tie.Need-loop-again Inv-loop μ-loop
 loop-again c = (search needs, search needs, search needs, search needs, search needs, search (needs, four-on))
 
--- src/rule.rt:49:1
 same-length-4 : tie.Need-same-length-4 Inv-loop μ-loop
 same-length-4 c = search needs
 
--- src/rule.rt:49:1
 same-length-5 : tie.Need-same-length-5 Inv-loop μ-loop
 same-length-5 c = search needs
 
--- src/rule.rt:49:1
 same-length-6 : tie.Need-same-length-6 Inv-loop μ-loop
 same-length-6 c = search needs
 
--- src/rule.rt:49:1
 returns-2 : tie.Need-returns-2 Inv-loop μ-loop
 returns-2 c = (search (needs, four-end), search needs)
 

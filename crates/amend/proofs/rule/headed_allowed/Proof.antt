@@ -3,27 +3,21 @@ use Rattle.amend.proofs.RuleLaws.{areas-five, areas-kept, paired-sides,
 use Rattle.amend.proofs.rule.headed_allowed.Statement.{statement}
 use Rattle.amend.proofs.rule.headed_allowed.Tie as tie
 
--- src/rule.rt:95:9
 plan-of-requires : tie.Need-plan-of-requires
 plan-of-requires c κs = (search needs, search needs, search needs, search (needs, areas-five))
 
--- src/rule.rt:96:5
 four-allowed-requires : tie.Need-four-allowed-requires
 four-allowed-requires c κs = (search (needs, paired-sides), search needs, search needs, search needs, search (needs, areas-kept), search needs)
 
--- src/rule.rt:80:1
 same-length : tie.Need-same-length
 same-length c = search needs
 
--- src/rule.rt:80:1
 same-length-2 : tie.Need-same-length-2
 same-length-2 c = search needs
 
--- src/rule.rt:80:1
 same-length-3 : tie.Need-same-length-3
 same-length-3 c = search needs
 
--- src/rule.rt:80:1
 returns : tie.Need-returns
 returns c = (search (needs, allowed-kinds), search needs)
 

@@ -3,23 +3,18 @@ use Rattle.amend.proofs.RuleLaws.{kind-room, verdict-put}
 use Rattle.amend.proofs.rule.kind_allowed.Statement.{statement}
 use Rattle.amend.proofs.rule.kind_allowed.Tie as tie
 
--- src/rule.rt:40:5
 put-kind-requires : tie.Need-put-kind-requires
 put-kind-requires c κs = (search needs, search needs, search needs, search needs, search needs, search needs, search (needs, kind-room))
 
--- src/rule.rt:22:1
 same-length : tie.Need-same-length
 same-length c = search needs
 
--- src/rule.rt:22:1
 same-length-2 : tie.Need-same-length-2
 same-length-2 c = search needs
 
--- src/rule.rt:22:1
 same-length-3 : tie.Need-same-length-3
 same-length-3 c = search needs
 
--- src/rule.rt:22:1
 returns : tie.Need-returns
 returns c = (search (needs, verdict-put), search needs)
 

@@ -1,3 +1,4 @@
+-- The headers first: 9 to 12 at record 1 of the update, then its records. Assumes nothing.
 use Rattle.apply.proofs.MergeLaws.{changed-refused, changed-on, refused-kept, amending}
 use Rattle.apply.proofs.ResultLaws.{area-kept}
 use Rattle.apply.proofs.FrontLaws.{cell-headed, update-headed}
@@ -5,39 +6,30 @@ use borrow.Author.Needs.{needs}
 use Rattle.apply.proofs.amended.changed.Statement.{statement}
 use Rattle.apply.proofs.amended.changed.Tie as tie
 
--- src/amended.rt:80:9
 follow-code-requires : tie.Need-follow-code-requires
 follow-code-requires c κs = (cell-headed (c .before .before .before .before .pre), update-headed (c .before .before .before .before .pre))
 
--- src/amended.rt:82:41
 header-at-requires : tie.Need-header-at-requires
 header-at-requires c κs = update-headed (c .before .before .before .before .before .before .pre)
 
--- src/amended.rt:82:25
 refuse-requires : tie.Need-refuse-requires
 refuse-requires c κs = search needs
 
--- src/amended.rt:82:9
 filed-requires : tie.Need-filed-requires
 filed-requires c κs = search needs
 
--- src/amended.rt:82:9
 returns : tie.Need-returns
 returns c = (changed-refused _ _ _ _ _ _ (c .before .before .before .before .follow-code .ensures _) _ _ _ (c .before .before .before .if1 .taken) (c .before .before .header-at .ensures .0) (c .before .refuse .ensures) (c .filed .ensures), area-kept _ _ _ (refused-kept _ _ _ _ _ (c .before .before .before .if1 .taken) (c .before .refuse .ensures) (c .filed .ensures)))
 
--- src/amended.rt:84:5
 amended-apart-requires : tie.Need-amended-apart-requires
 amended-apart-requires c κs = amending _ (c .before .before .before .before .before .before .before .before .pre) (c .before .before .before .follow-code .ensures _) (c .before .before .if1 .left)
 
--- src/amended.rt:75:1
 same-length : tie.Need-same-length
 same-length c = search needs
 
--- src/amended.rt:75:1
 same-length-2 : tie.Need-same-length-2
 same-length-2 c = search needs
 
--- src/amended.rt:75:1
 returns-2 : tie.Need-returns-2
 returns-2 c = (changed-on _ _ _ _ _ _ (c .before .before .before .before .before .before .before .before .follow-code .ensures _) _ (c .before .before .before .before .before .before .before .if1 .left) (c .before .before .before .before .amended-apart .ensures .0), c .before .before .before .before .amended-apart .ensures .1)
 

@@ -1,3 +1,4 @@
+-- Work first, then the codes of reading; where there is none, both files are known to be readable. Assumes nothing.
 use Rattle.apply.proofs.ApplyLaws.{both-few, applied-work, applied-read, applied-on, applied-before, code-kept}
 use Rattle.apply.proofs.ResultLaws.{area-kept}
 use native.Mathlib.Omega.{arith}
@@ -5,55 +6,42 @@ use borrow.Author.Needs.{needs}
 use Rattle.apply.proofs.checked.applied.Statement.{statement}
 use Rattle.apply.proofs.checked.applied.Tie as tie
 
--- src/checked.rt:19:27
 add-if1 : tie.Need-add-if1
 add-if1 c = omega (arith, both-few (c .before .before .before .before .pre .0) (c .before .before .before .before .pre .1))
 
--- src/checked.rt:19:21
 mul-if1 : tie.Need-mul-if1
 mul-if1 c = omega (arith, both-few (c .before .before .before .before .pre .0) (c .before .before .before .before .pre .1))
 
--- src/checked.rt:20:40
 add-answered : tie.Need-add-answered
 add-answered c = omega (arith, both-few (c .before .before .before .before .before .pre .0) (c .before .before .before .before .before .pre .1))
 
--- src/checked.rt:20:34
 mul-answered : tie.Need-mul-answered
 mul-answered c = omega (arith, both-few (c .before .before .before .before .before .pre .0) (c .before .before .before .before .before .pre .1))
 
--- src/checked.rt:20:9
 answered-requires : tie.Need-answered-requires
 answered-requires c κs = search needs
 
--- src/checked.rt:20:9
 returns : tie.Need-returns
 returns c = (applied-work _ _ _ _ _ _ _ (search needs) (c .answered .ensures), area-kept _ _ _ (code-kept 3 _ _ _ _ _ (λ z. omega arith) (c .answered .ensures)))
 
--- src/checked.rt:22:9
 both-fault-requires : tie.Need-both-fault-requires
 both-fault-requires c κs = search needs
 
--- src/checked.rt:25:9
 same-length : tie.Need-same-length
 same-length c = search needs
 
--- src/checked.rt:25:9
 returns-2 : tie.Need-returns-2
 returns-2 c = (applied-read _ _ _ _ _ _ (c .before .before .before .both-fault .result) (search needs) _ (c .before .before .before .both-fault .ensures .0) (c .if2 .taken), area-kept _ _ _ (c .if2 .taken))
 
--- src/checked.rt:27:5
 changed-requires : tie.Need-changed-requires
 changed-requires c κs = applied-before _ _ _ _ _ (c .before .before .before .before .before .both-fault .ensures .0) (c .before .before .if2 .left) _ (c .before .before .before .before .before .before .before .before .before .before .before .before .pre .0) (c .before .before .before .before .before .before .before .before .before .before .before .before .pre .1) (λ i. omega (arith, c .before .before .before .before .before .before .before .before .before .before .before .shared-slice-known .given i)) (λ i. omega (arith, c .before .before .before .before .before .before .before .before .before .before .shared-slice-known2 .given i)) (search needs) (c .before .before .before .before .before .both-fault .ensures .1 (c .before .before .if2 .left))
 
--- src/checked.rt:14:1
 same-length-2 : tie.Need-same-length-2
 same-length-2 c = search needs
 
--- src/checked.rt:14:1
 same-length-3 : tie.Need-same-length-3
 same-length-3 c = search needs
 
--- src/checked.rt:14:1
 returns-3 : tie.Need-returns-3
 returns-3 c = (applied-on _ _ _ _ _ _ _ (search needs) _ (c .before .before .before .before .before .before .before .before .before .before .both-fault .ensures .0) (c .before .before .before .before .before .before .before .if2 .left) (c .before .before .before .before .changed .ensures .0), c .before .before .before .before .changed .ensures .1)
 

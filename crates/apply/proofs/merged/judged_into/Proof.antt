@@ -1,66 +1,52 @@
+-- The topology first: a code of it answers, and the output stays; else the result goes on to be written. Assumes nothing.
 use mathlib.Core.Path.{refl}
 use Rattle.apply.proofs.ResultLaws.{area-kept, filed-kept, judged-refused, judged-on, judged-area, judging-laid}
 use borrow.Author.Needs.{needs}
 use Rattle.apply.proofs.merged.judged_into.Statement.{statement}
 use Rattle.apply.proofs.merged.judged_into.Tie as tie
 
--- src/merged.rt:67:9
 comf-of-requires : tie.Need-comf-of-requires
 comf-of-requires c κs = search needs
 
--- src/merged.rt:68:9
 result-fault-requires : tie.Need-result-fault-requires
 result-fault-requires c κs = search needs
 
--- src/merged.rt:71:9
 filed-requires : tie.Need-filed-requires
 filed-requires c κs = search needs
 
--- src/merged.rt:71:9
 same-length : tie.Need-same-length
 same-length c = search needs
 
--- src/merged.rt:71:9
 same-length-2 : tie.Need-same-length-2
 same-length-2 c = search needs
 
--- src/merged.rt:71:9
 same-length-3 : tie.Need-same-length-3
 same-length-3 c = search needs
 
--- src/merged.rt:71:9
 same-length-4 : tie.Need-same-length-4
 same-length-4 c = search needs
 
--- src/merged.rt:71:9
 returns : tie.Need-returns
 returns c = (search (needs, judged-refused), search (needs, area-kept, filed-kept))
 
--- src/merged.rt:73:5
 result-into-requires : tie.Need-result-into-requires
 result-into-requires c κs = (search (needs, judging-laid), search needs)
 
--- src/merged.rt:50:1
 same-length-5 : tie.Need-same-length-5
 same-length-5 c = search needs
 
--- src/merged.rt:50:1
 same-length-6 : tie.Need-same-length-6
 same-length-6 c = search needs
 
--- src/merged.rt:50:1
 same-length-7 : tie.Need-same-length-7
 same-length-7 c = search needs
 
--- src/merged.rt:50:1
 same-length-8 : tie.Need-same-length-8
 same-length-8 c = search needs
 
--- src/merged.rt:50:1
 same-length-9 : tie.Need-same-length-9
 same-length-9 c = search needs
 
--- src/merged.rt:50:1
 returns-2 : tie.Need-returns-2
 returns-2 c = (judged-on _ _ _ _ _ _ _ (c .before .before .before .before .before .before .before .before .before .before .before .before .before .before .before .before .before .before .before .before .before .before .before .before .before .before .before .before .before .before .before .before .before .before .before .before .pre .0) _ (c .before .before .before .before .before .before .before .before .before .before .before .before .before .before .before .before .before .before .before .before .before .before .before .before .before .before .before .before .comf-of .ensures .0) _ (c .before .before .before .before .before .before .before .before .before .before .before .before .before .before .before .before .before .before .before .before .before .before .before .result-fault .ensures .0) _ _ (c .before .before .before .before .before .before .before .before .before .before .before .before .before .before .if1 .left) _ (c .before .before .before .before .before .before .before .before .result-into .ensures .0) (search needs), judged-area _ _ _ _ _ _ _ (c .before .before .before .before .before .before .before .before .before .before .before .before .before .before .before .before .before .before .before .before .before .before .before .before .before .before .before .before .before .before .before .before .before .before .before .before .pre .0) _ (c .before .before .before .before .before .before .before .before .before .before .before .before .before .before .before .before .before .before .before .before .before .before .before .before .before .before .before .before .comf-of .ensures .0) _ (c .before .before .before .before .before .before .before .before .before .before .before .before .before .before .before .before .before .before .before .before .before .before .before .result-fault .ensures .0) _ _ (c .before .before .before .before .before .before .before .before .before .before .before .before .before .before .if1 .left) _ (c .before .before .before .before .before .before .before .before .result-into .ensures .0) (search needs) _ _ refl (c .before .before .before .before .before .before .before .before .result-into .ensures .1))
 

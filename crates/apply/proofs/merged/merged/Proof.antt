@@ -1,54 +1,43 @@
+-- What was woven is what the judge of the result asks for, and stands for the updated chart. Assumes nothing.
 use Rattle.apply.proofs.MergeLaws.{merging-three, merging-two, merging-warp, merging-judging, merged-answer, merged-area}
 use mathlib.Core.Path.{refl}
 use borrow.Author.Needs.{needs}
 use Rattle.apply.proofs.merged.merged.Statement.{statement}
 use Rattle.apply.proofs.merged.merged.Tie as tie
 
--- src/merged.rt:92:13
 sub-i : tie.Need-sub-i
 sub-i c = merging-three (c .before .before .before .before .before .before .before .pre .0)
 
--- src/merged.rt:93:13
 sub-j : tie.Need-sub-j
 sub-j c = merging-two (c .before .before .before .before .before .before .before .pre .0)
 
--- src/merged.rt:94:20
 add-end : tie.Need-add-end
 add-end c = search needs
 
--- src/merged.rt:94:15
 mul-end : tie.Need-mul-end
 mul-end c = search needs
 
--- src/merged.rt:95:9
 woven-requires : tie.Need-woven-requires
 woven-requires c κs = merging-warp (c .before .before .before .before .before .before .before .before .pre .0) _ _ refl refl
 
--- src/merged.rt:96:5
 judged-into-requires : tie.Need-judged-into-requires
 judged-into-requires c κs = (merging-judging (c .before .before .before .before .before .before .before .before .before .before .before .before .before .before .before .before .pre .0) _ _ refl refl (c .before .before .before .before .before .before .before .woven .ensures) _ refl, search needs)
 
--- src/merged.rt:77:1
 same-length : tie.Need-same-length
 same-length c = search needs
 
--- src/merged.rt:77:1
 same-length-2 : tie.Need-same-length-2
 same-length-2 c = search needs
 
--- src/merged.rt:77:1
 same-length-3 : tie.Need-same-length-3
 same-length-3 c = search needs
 
--- src/merged.rt:77:1
 same-length-4 : tie.Need-same-length-4
 same-length-4 c = search needs
 
--- src/merged.rt:77:1
 same-length-5 : tie.Need-same-length-5
 same-length-5 c = search needs
 
--- src/merged.rt:77:1
 returns : tie.Need-returns
 returns c = (merged-answer (c .before .before .before .before .before .before .before .before .before .before .before .before .before .before .before .before .before .before .before .before .before .before .before .before .before .before .before .pre .0) _ _ refl refl (c .before .before .before .before .before .before .before .before .before .before .before .before .before .before .before .before .before .before .woven .ensures) _ refl _ _ (c .before .before .before .before .before .before .before .before .before .before .judged-into .ensures .0), merged-area (c .before .before .before .before .before .before .before .before .before .before .before .before .before .before .before .before .before .before .before .before .before .before .before .before .before .before .before .pre .0) _ _ refl refl (c .before .before .before .before .before .before .before .before .before .before .before .before .before .before .before .before .before .before .woven .ensures) _ refl _ _ _ (c .before .before .before .before .before .before .before .before .before .before .judged-into .ensures .1))
 

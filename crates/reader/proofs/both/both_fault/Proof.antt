@@ -4,51 +4,39 @@ use borrow.Author.Needs.{needs}
 use Rattle.reader.proofs.both.both_fault.Statement.{statement}
 use Rattle.reader.proofs.both.both_fault.Tie as tie
 
--- src/both.rt:54:9
 less-requires : tie.Need-less-requires
 less-requires c κs = search needs
 
--- src/both.rt:55:23
 less-requires-2 : tie.Need-less-requires-2
 less-requires-2 c κs = search needs
 
--- src/both.rt:55:16
 add-half : tie.Need-add-half
 add-half c = search needs
 
--- src/both.rt:56:9
 cell-from-requires : tie.Need-cell-from-requires
 cell-from-requires c κs = search needs
 
--- src/both.rt:59:9
 filed-requires : tie.Need-filed-requires
 filed-requires c κs = search needs
 
--- src/both.rt:59:9
 same-length : tie.Need-same-length
 same-length c = search needs
 
--- src/both.rt:59:9
 returns : tie.Need-returns
 returns c = (search (needs, first-cell), search (needs, both-none))
 
--- src/both.rt:61:43
 add-update-from : tie.Need-add-update-from
 add-update-from c = search needs
 
--- src/both.rt:61:14
 update-from-requires : tie.Need-update-from-requires
 update-from-requires c κs = search needs
 
--- src/both.rt:61:5
 filed-requires-2 : tie.Need-filed-requires-2
 filed-requires-2 c κs = search needs
 
--- src/both.rt:49:1
 same-length-2 : tie.Need-same-length-2
 same-length-2 c = search needs
 
--- src/both.rt:49:1
 returns-2 : tie.Need-returns-2
 returns-2 c = (search (needs, first-update), search (needs, both-words))
 

@@ -4,31 +4,24 @@ use borrow.Author.Needs.{needs}
 use Rattle.reader.proofs.both.cell_from.Statement.{statement}
 use Rattle.reader.proofs.both.cell_from.Tie as tie
 
--- src/both.rt:33:16
 mul-from : tie.Need-mul-from
 mul-from c = search needs
 
--- src/both.rt:34:22
 sub-cell-fault : tie.Need-sub-cell-fault
 sub-cell-fault c = search needs
 
--- src/both.rt:34:22
 part-cell-fault-start : tie.Need-part-cell-fault-start
 part-cell-fault-start c = search needs
 
--- src/both.rt:34:22
 part-cell-fault-end : tie.Need-part-cell-fault-end
 part-cell-fault-end c = search needs
 
--- src/both.rt:34:5
 cell-fault-requires : tie.Need-cell-fault-requires
 cell-fault-requires c κs = search needs
 
--- src/both.rt:28:1
 same-length : tie.Need-same-length
 same-length c = search needs
 
--- src/both.rt:28:1
 returns : tie.Need-returns
 returns c = (search needs, λ z. cell-placed _ _ _ _ (c .before .before .before .before .before .before .pre .1) (c .before .before .cell-fault .kept .1 .1 .0) _ ((c .before .before .cell-fault .ensures .1) z))
 

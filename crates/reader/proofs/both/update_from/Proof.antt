@@ -4,31 +4,24 @@ use borrow.Author.Needs.{needs}
 use Rattle.reader.proofs.both.update_from.Statement.{statement}
 use Rattle.reader.proofs.both.update_from.Tie as tie
 
--- src/both.rt:44:16
 mul-from : tie.Need-mul-from
 mul-from c = search needs
 
--- src/both.rt:45:24
 sub-update-fault : tie.Need-sub-update-fault
 sub-update-fault c = search needs
 
--- src/both.rt:45:24
 part-update-fault-start : tie.Need-part-update-fault-start
 part-update-fault-start c = search needs
 
--- src/both.rt:45:24
 part-update-fault-end : tie.Need-part-update-fault-end
 part-update-fault-end c = search needs
 
--- src/both.rt:45:5
 update-fault-requires : tie.Need-update-fault-requires
 update-fault-requires c κs = search needs
 
--- src/both.rt:38:1
 same-length : tie.Need-same-length
 same-length c = search needs
 
--- src/both.rt:38:1
 returns : tie.Need-returns
 returns c = (
   search needs,

@@ -6,39 +6,30 @@ use borrow.Author.Needs.{needs}
 use Rattle.reader.proofs.read.both_checked.Statement.{statement}
 use Rattle.reader.proofs.read.both_checked.Tie as tie
 
--- src/read.rt:50:27
 add-if1 : tie.Need-add-if1
 add-if1 c = omega (arith, few (c .before .before .before .pre .0), few (c .before .before .before .pre .1))
 
--- src/read.rt:50:21
 mul-if1 : tie.Need-mul-if1
 mul-if1 c = omega (arith, few (c .before .before .before .pre .0), few (c .before .before .before .pre .1))
 
--- src/read.rt:51:40
 add-answered : tie.Need-add-answered
 add-answered c = omega (arith, few (c .before .before .before .before .pre .0), few (c .before .before .before .before .pre .1))
 
--- src/read.rt:51:34
 mul-answered : tie.Need-mul-answered
 mul-answered c = omega (arith, few (c .before .before .before .before .pre .0), few (c .before .before .before .before .pre .1))
 
--- src/read.rt:51:9
 answered-requires : tie.Need-answered-requires
 answered-requires c κs = search needs
 
--- src/read.rt:51:9
 returns : tie.Need-returns
 returns c = search (needs, both-work)
 
--- src/read.rt:53:5
 both-fault-requires : tie.Need-both-fault-requires
 both-fault-requires c κs = search (needs, both-opened)
 
--- src/read.rt:46:1
 same-length : tie.Need-same-length
 same-length c = search needs
 
--- src/read.rt:46:1
 returns-2 : tie.Need-returns-2
 returns-2 c = search (needs, checked-both)
 

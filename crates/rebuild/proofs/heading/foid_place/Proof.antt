@@ -3,11 +3,9 @@ use Rattle.rebuild.proofs.FrontLaws.{foid-start, foid-within}
 use Rattle.rebuild.proofs.heading.foid_place.Statement.{statement}
 use Rattle.rebuild.proofs.heading.foid_place.Tie as tie
 
--- src/heading.rt:87:9
 field-at-requires : tie.Need-field-at-requires
 field-at-requires c κs = search needs
 
--- src/heading.rt:83:1
 returns : tie.Need-returns
 returns c = (search (needs, foid-start), search (needs, foid-within))
 

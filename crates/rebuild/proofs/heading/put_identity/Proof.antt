@@ -3,31 +3,24 @@ use Rattle.rebuild.proofs.FrontLaws.{id-within, identity-put}
 use Rattle.rebuild.proofs.heading.put_identity.Statement.{statement}
 use Rattle.rebuild.proofs.heading.put_identity.Tie as tie
 
--- src/heading.rt:75:9
 version-of-requires : tie.Need-version-of-requires
 version-of-requires c κs = search needs
 
--- src/heading.rt:76:9
 field-at-requires : tie.Need-field-at-requires
 field-at-requires c κs = search needs
 
--- src/heading.rt:78:9
 put-lead-requires : tie.Need-put-lead-requires
 put-lead-requires c κs = (search (needs, id-within), search needs)
 
--- src/heading.rt:79:26
 add-put-version : tie.Need-add-put-version
 add-put-version c = search needs
 
--- src/heading.rt:79:5
 put-version-requires : tie.Need-put-version-requires
 put-version-requires c κs = search needs
 
--- src/heading.rt:62:1
 same-length : tie.Need-same-length
 same-length c = search needs
 
--- src/heading.rt:62:1
 returns : tie.Need-returns
 returns c = (search (needs, identity-put), search needs)
 

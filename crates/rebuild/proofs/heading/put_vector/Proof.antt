@@ -3,23 +3,18 @@ use Rattle.rebuild.proofs.FrontLaws.{id-five, vector-put}
 use Rattle.rebuild.proofs.heading.put_vector.Statement.{statement}
 use Rattle.rebuild.proofs.heading.put_vector.Tie as tie
 
--- src/heading.rt:101:9
 vector-rows-requires : tie.Need-vector-rows-requires
 vector-rows-requires c κs = search needs
 
--- src/heading.rt:103:9
 put-heading-requires : tie.Need-put-heading-requires
 put-heading-requires c κs = search needs
 
--- src/heading.rt:104:5
 put-identity-requires : tie.Need-put-identity-requires
 put-identity-requires c κs = (search needs, search needs, search needs, search needs, search (needs, id-five), search needs)
 
--- src/heading.rt:95:1
 same-length : tie.Need-same-length
 same-length c = search needs
 
--- src/heading.rt:95:1
 returns : tie.Need-returns
 returns c = (search (needs, vector-put), search needs)
 

@@ -3,43 +3,33 @@ use Rattle.rebuild.proofs.PuttingLaws.{kind-fits, edited-none, edited-l
 use Rattle.rebuild.proofs.record.put_edited_field.Statement.{statement}
 use Rattle.rebuild.proofs.record.put_edited_field.Tie as tie
 
--- src/record.rt:51:9
 put-kind-requires : tie.Need-put-kind-requires
 put-kind-requires c κs = (search needs, search needs, search needs, search needs, search needs, search needs, search (needs, kind-fits))
 
--- src/record.rt:66:9
 same-length : tie.Need-same-length
 same-length c = search needs
 
--- src/record.rt:66:9
 same-length-2 : tie.Need-same-length-2
 same-length-2 c = search needs
 
--- src/record.rt:66:9
 same-length-3 : tie.Need-same-length-3
 same-length-3 c = search needs
 
--- src/record.rt:66:9
 returns : tie.Need-returns
 returns c = (search (needs, edited-none), search needs, search needs, search needs)
 
--- src/record.rt:68:5
 put1-requires : tie.Need-put1-requires
 put1-requires c κs = search (needs, edited-last)
 
--- src/record.rt:31:1
 same-length-4 : tie.Need-same-length-4
 same-length-4 c = search needs
 
--- src/record.rt:31:1
 same-length-5 : tie.Need-same-length-5
 same-length-5 c = search needs
 
--- src/record.rt:31:1
 same-length-6 : tie.Need-same-length-6
 same-length-6 c = search needs
 
--- src/record.rt:31:1
 returns-2 : tie.Need-returns-2
 returns-2 c = (search (needs, edited-put), search (needs, edited-least), search (needs, edited-most), search needs)
 

@@ -14,19 +14,15 @@ Inv-loop cell at hc update by hu plan join₀ table₀ room₀ kinds totals₀ n
 abbrev μ-loop : tie.MeasureT-loop
 μ-loop cell at hc update by hu plan join₀ table₀ room₀ kinds totals₀ next₀ i₀ join table room totals next i = 4 - i
 
--- src/record.rt:105:5
 loop-holds : tie.Need-loop-holds Inv-loop μ-loop
 loop-holds c = (search (needs, putting-start), search needs, search needs, search needs)
 
--- src/record.rt:106:17
 mul-k : tie.Need-mul-k Inv-loop μ-loop
 mul-k c = search needs
 
--- src/record.rt:106:17
 array-read-k : tie.Need-array-read-k Inv-loop μ-loop
 array-read-k c = search needs
 
--- src/record.rt:107:13
 put-edited-field-requires : tie.Need-put-edited-field-requires Inv-loop μ-loop
 put-edited-field-requires c κs = (
   search (needs, editable-sides),
@@ -39,43 +35,33 @@ put-edited-field-requires c κs = (
   search (needs, putting-room),
 )
 
--- src/record.rt:121:21
 content-size-requires : tie.Need-content-size-requires Inv-loop μ-loop
 content-size-requires c κs = (search needs, search (needs, putting-high))
 
--- src/record.rt:121:9
 mul-totals : tie.Need-mul-totals Inv-loop μ-loop
 mul-totals c = search needs
 
--- src/record.rt:121:9
 array-write-totals : tie.Need-array-write-totals Inv-loop μ-loop
 array-write-totals c = search needs
 
--- src/record.rt:123:9
 add-i : tie.Need-add-i Inv-loop μ-loop
 add-i c = search needs
 
--- src/record.rt:105:5
 loop-less : tie.Need-loop-less Inv-loop μ-loop
 loop-less c = search needs
 
--- src/record.rt:105:5
 loop-again : tie.Need-loop-again Inv-loop μ-loop
 loop-again c = (search (needs, putting-on), search needs, search needs, search needs)
 
--- src/record.rt:84:1
 same-length : tie.Need-same-length Inv-loop μ-loop
 same-length c = search needs
 
--- src/record.rt:84:1
 same-length-2 : tie.Need-same-length-2 Inv-loop μ-loop
 same-length-2 c = search needs
 
--- src/record.rt:84:1
 same-length-3 : tie.Need-same-length-3 Inv-loop μ-loop
 same-length-3 c = search needs
 
--- src/record.rt:84:1
 returns : tie.Need-returns Inv-loop μ-loop
 returns c = (search (needs, putting-end), search needs)
 

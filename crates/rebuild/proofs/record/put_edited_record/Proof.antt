@@ -8,19 +8,15 @@ use Rattle.rebuild.proofs.PuttingLaws.{editable-old, editable-known, ed
 use Rattle.rebuild.proofs.record.put_edited_record.Statement.{statement}
 use Rattle.rebuild.proofs.record.put_edited_record.Tie as tie
 
--- src/record.rt:162:9
 head-of-requires : tie.Need-head-of-requires
 head-of-requires c κs = search needs
 
--- src/record.rt:163:9
 put-lists-by-requires : tie.Need-put-lists-by-requires
 put-lists-by-requires c κs = search needs
 
--- src/record.rt:164:8
 rcnm-of-requires : tie.Need-rcnm-of-requires
 rcnm-of-requires c κs = search needs
 
--- src/record.rt:165:9
 put-feature-requires : tie.Need-put-feature-requires
 put-feature-requires c κs = (
   search (needs, editable-old),
@@ -32,19 +28,15 @@ put-feature-requires c κs = (
   search needs,
 )
 
--- src/record.rt:165:9
 same-length : tie.Need-same-length
 same-length c = search needs
 
--- src/record.rt:165:9
 same-length-2 : tie.Need-same-length-2
 same-length-2 c = search needs
 
--- src/record.rt:165:9
 same-length-3 : tie.Need-same-length-3
 same-length-3 c = search needs
 
--- src/record.rt:165:9
 returns : tie.Need-returns
 returns c =
     let called = c .before .before .before .before .before .before .before .before .before .before .before .before in
@@ -52,23 +44,18 @@ returns c =
     let small : (i : ℕ) → byteAt (now (start .before .args .cell)) i < 256 = λ i. omega (arith, start .shared-slice-known .given i) in
     (search (needs, feature-made), search needs)
 
--- src/record.rt:167:5
 put-vector-requires : tie.Need-put-vector-requires
 put-vector-requires c κs = (search (needs, editable-old), search needs, search (needs, editable-known), search (needs, editable-low), search (needs, lists-small), search needs)
 
--- src/record.rt:150:1
 same-length-4 : tie.Need-same-length-4
 same-length-4 c = search needs
 
--- src/record.rt:150:1
 same-length-5 : tie.Need-same-length-5
 same-length-5 c = search needs
 
--- src/record.rt:150:1
 same-length-6 : tie.Need-same-length-6
 same-length-6 c = search needs
 
--- src/record.rt:150:1
 returns-2 : tie.Need-returns-2
 returns-2 c =
     let called = c .before .before .before .before .before .before .before .before .before .before .before .before in

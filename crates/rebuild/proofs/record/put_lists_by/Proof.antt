@@ -4,31 +4,24 @@ use Rattle.amend.proofs.RuleLaws.{areas-five, areas-kept}
 use Rattle.rebuild.proofs.record.put_lists_by.Statement.{statement}
 use Rattle.rebuild.proofs.record.put_lists_by.Tie as tie
 
--- src/record.rt:143:9
 head-of-requires : tie.Need-head-of-requires
 head-of-requires c κs = search needs
 
--- src/record.rt:144:9
 plan-of-requires : tie.Need-plan-of-requires
 plan-of-requires c κs = (search (needs, editable-paired), search needs, search needs, search (needs, areas-five))
 
--- src/record.rt:145:5
 put-edited-lists-requires : tie.Need-put-edited-lists-requires
 put-edited-lists-requires c κs = (search needs, search needs, search needs, search needs, search (needs, areas-kept), search needs)
 
--- src/record.rt:129:1
 same-length : tie.Need-same-length
 same-length c = search needs
 
--- src/record.rt:129:1
 same-length-2 : tie.Need-same-length-2
 same-length-2 c = search needs
 
--- src/record.rt:129:1
 same-length-3 : tie.Need-same-length-3
 same-length-3 c = search needs
 
--- src/record.rt:129:1
 returns : tie.Need-returns
 returns c = (search (needs, lists-kinds), search needs)
 

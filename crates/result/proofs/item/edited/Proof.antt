@@ -3,23 +3,18 @@ use Rattle.result.proofs.EditedLaws.{edited-able, edited-stood}
 use Rattle.result.proofs.item.edited.Statement.{statement}
 use Rattle.result.proofs.item.edited.Tie as tie
 
--- src/item.rt:31:5
 put-edited-record-requires : tie.Need-put-edited-record-requires
 put-edited-record-requires c κs = (search (needs, edited-able), search needs, search needs)
 
--- src/item.rt:17:1
 same-length : tie.Need-same-length
 same-length c = search needs
 
--- src/item.rt:17:1
 same-length-2 : tie.Need-same-length-2
 same-length-2 c = search needs
 
--- src/item.rt:17:1
 same-length-3 : tie.Need-same-length-3
 same-length-3 c = search needs
 
--- src/item.rt:17:1
 returns : tie.Need-returns
 returns c = (search (needs, edited-stood), record { areas = search needs; long = search needs })
 
