@@ -22,7 +22,7 @@ pub index-zero : applyOf small fromZero 160 2077 ≡ answer 16 2 2 0 581
 unfolding judging admitting applying smallFiles otherFiles
 index-zero = refl
 
--- ---- "Resolving pointers before the update's own deletes": node 2 goes, at which the edge ends, by then the fifth record of the result
+-- ---- "Resolving pointers before the update's own deletes": node 2 goes, at which the edge ends; the edge is record 4 of the result
 pub sinking-18 : applyOf small sinking 160 2077 ≡ answer 18 3 4 0 0
 unfolding judging admitting applying smallFiles otherFiles
 sinking-18 = refl

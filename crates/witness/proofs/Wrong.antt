@@ -218,5 +218,6 @@ not-invented-admit-work k wrong =
 
 pub not-invented-apply-work : {apply : Applier} → KeepsApply apply → InventsApplyWork apply → ⊥
 not-invented-apply-work k wrong =
-    let e = k .told small moving 0 [] ∙ apply-work small moving 0 0 (small-admissible .readable .opened) (moving-allowed .reads .opened) (omega (arith, small-count, moving-count)) in
+    let a = small-admissible .readable .opened in
+    let e = k .told small moving 0 [] ∙ apply-work small moving 0 0 a (moving-allowed .reads .opened) (omega (arith, small-count, moving-count)) in
     wrong .other small moving 0 [] (code-of e) (number-of e)
