@@ -25,6 +25,7 @@ use Rattle.loader.proofs.AdmitLaws.{fault-told}
 use Rattle.show.specs.Named.{isClass, isNamed}
 use Rattle.show.specs.Show.{spanOf, foundSight, absent, cellSight, bothSight, afterReading, aloneSight, pairSight, secondSight, updateSight, firstSight, sightOf}
 use Rattle.show.specs.Show.{sightAnswer, bytesOfSpan, sightBytes, showOf, shownPart}
+use Rattle.show.specs.Place.{within, placeOfSpan, sightPlace, shownPlace}
 use Rattle.show.specs.declared.sight.Sight.{Sight}
 use Rattle.show.specs.declared.sight.Sight.the-variants.{Shown}
 use Rattle.show.proofs.NamedLaws.{named-only, named-none, other-class}
@@ -34,15 +35,24 @@ use Rattle.show.proofs.CallLaws.{update-once}
 abbrev pub recordBytes : List ℕ → ℕ → List ℕ
 recordBytes s k = take (sizeAt s (recordAt s k)) (drop (recordAt s k) s)
 
--- what Show gives: this answer and this part
-pub record Gives (cell update : List ℕ) (w rcnm rcid : ℕ) (a : Answer) (part : List ℕ) : Type 0 where
+-- byte `from` of the cell, and of the update, which begin at these places
+abbrev pub ofCell : ℕ → ℕ × ℕ → ℕ × ℕ → ℕ × ℕ
+ofCell from here there = within here from
+
+abbrev pub ofUpdate : ℕ → ℕ × ℕ → ℕ × ℕ → ℕ × ℕ
+ofUpdate from here there = within there from
+
+-- what Show gives: this answer and this part, which lies at this place, wherever the two files begin
+pub record Gives (cell update : List ℕ) (w rcnm rcid : ℕ) (a : Answer) (part : List ℕ) (at : ℕ × ℕ → ℕ × ℕ → ℕ × ℕ) : Type 0 where
   pub answered : showOf cell update w rcnm rcid ≡ a
   pub shown : shownPart cell update w rcnm rcid ≡ part
+  pub lies : (here there : ℕ × ℕ) → shownPlace here there cell update w rcnm rcid ≡ at here there
 
 gives : (cell update : List ℕ) (w rcnm rcid : ℕ) (sight : Sight) → sightOf cell update w rcnm rcid ≡ sight
-    → Gives cell update w rcnm rcid (sightAnswer sight) (sightBytes cell update sight)
-unfolding showOf shownPart
-gives cell update w rcnm rcid sight e = record { answered = ap sightAnswer e; shown = ap (sightBytes cell update) e }
+    → Gives cell update w rcnm rcid (sightAnswer sight) (sightBytes cell update sight) (λ here there. sightPlace here there sight)
+unfolding showOf shownPart shownPlace
+gives cell update w rcnm rcid sight e =
+    record { answered = ap sightAnswer e; shown = ap (sightBytes cell update) e; lies = λ here there. ap (sightPlace here there) e }
 
 -- ---- out of a reading without a code
 work-fine : (w n : ℕ) (on : Answer) → workAnswer w n on .code ≡ 0 → on .code ≡ 0
@@ -74,18 +84,18 @@ module _ (cell update : List ℕ) (w n rcnm rcid : ℕ) (front : frontOf 1 cell 
   alone-once = fault-told cell n alone-read .1
 
   pub alone-shown : (k : ℕ) → 3 ≤ k → k < n → isNamed cell (recordAt cell k) rcnm rcid ≡ true
-      → Gives cell update w rcnm rcid (answer 0 0 0 (sizeAt cell (recordAt cell k)) 0) (recordBytes cell k)
-  unfolding cellSight foundSight spanOf sightAnswer sightBytes bytesOfSpan firstItem
+      → Gives cell update w rcnm rcid (answer 0 0 0 (sizeAt cell (recordAt cell k)) 0) (recordBytes cell k) (ofCell (recordAt cell k))
+  unfolding cellSight foundSight spanOf sightAnswer sightBytes bytesOfSpan sightPlace placeOfSpan firstItem
   alone-shown k low high is =
       gives cell update w rcnm rcid (Shown (spanOf false cell (recordAt cell k))) (alone-sight ∙ rw (named-only alone-good alone-once k rcnm rcid low high is))
 
-  pub alone-absent : ((k : ℕ) → 3 ≤ k → k < n → isNamed cell (recordAt cell k) rcnm rcid ≡ false) → Gives cell update w rcnm rcid (answer 22 0 0 0 0) []
-  unfolding cellSight foundSight absent sightAnswer sightBytes firstItem
+  pub alone-absent : ((k : ℕ) → 3 ≤ k → k < n → isNamed cell (recordAt cell k) rcnm rcid ≡ false) → Gives cell update w rcnm rcid (answer 22 0 0 0 0) [] (ofCell 0)
+  unfolding cellSight foundSight absent sightAnswer sightBytes sightPlace firstItem
   alone-absent lost = gives cell update w rcnm rcid absent (alone-sight ∙ rw (named-none false cell n rcnm rcid lost))
 
   -- names of class 10 or 20, or of any other class than the four, are 22
-  pub alone-class : ((i : ℕ) → byteAt cell i < 256) → rcid < 4294967296 → isClass rcnm ≡ false → Gives cell update w rcnm rcid (answer 22 0 0 0 0) []
-  unfolding cellSight foundSight absent sightAnswer sightBytes
+  pub alone-class : ((i : ℕ) → byteAt cell i < 256) → rcid < 4294967296 → isClass rcnm ≡ false → Gives cell update w rcnm rcid (answer 22 0 0 0 0) [] (ofCell 0)
+  unfolding cellSight foundSight absent sightAnswer sightBytes sightPlace
   alone-class held small other = gives cell update w rcnm rcid absent (alone-sight ∙ rw (other-class alone-good alone-once held rcnm rcid small other))
 
 -- ---- a cell and an update, whichever cell that is of
@@ -114,8 +124,8 @@ module _ (cell update : List ℕ) (w n m rcnm rcid : ℕ) (front : frontOf 1 cel
 
   -- "a part of the update if it has one so named"
   pub update-shown : (k : ℕ) → 2 ≤ k → k < m → isNamed update (recordAt update k) rcnm rcid ≡ true
-      → Gives cell update w rcnm rcid (answer 0 0 0 (sizeAt update (recordAt update k)) 0) (recordBytes update k)
-  unfolding bothSight foundSight spanOf sightAnswer sightBytes bytesOfSpan firstItem
+      → Gives cell update w rcnm rcid (answer 0 0 0 (sizeAt update (recordAt update k)) 0) (recordBytes update k) (ofUpdate (recordAt update k))
+  unfolding bothSight foundSight spanOf sightAnswer sightBytes bytesOfSpan sightPlace placeOfSpan firstItem
   update-shown k low high is =
       gives cell update w rcnm rcid (Shown (spanOf true update (recordAt update k)))
       (pair-sight ∙ rw (named-only pair-come (update-once update m (pair-read .1)) k rcnm rcid low high is))
@@ -127,20 +137,20 @@ module _ (cell update : List ℕ) (w n m rcnm rcid : ℕ) (front : frontOf 1 cel
 
     -- "else of the cell"
     pub cell-shown : (k : ℕ) → 3 ≤ k → k < n → isNamed cell (recordAt cell k) rcnm rcid ≡ true
-        → Gives cell update w rcnm rcid (answer 0 0 0 (sizeAt cell (recordAt cell k)) 0) (recordBytes cell k)
-    unfolding cellSight foundSight spanOf sightAnswer sightBytes bytesOfSpan firstItem
+        → Gives cell update w rcnm rcid (answer 0 0 0 (sizeAt cell (recordAt cell k)) 0) (recordBytes cell k) (ofCell (recordAt cell k))
+    unfolding cellSight foundSight spanOf sightAnswer sightBytes bytesOfSpan sightPlace placeOfSpan firstItem
     cell-shown k low high is =
         gives cell update w rcnm rcid (Shown (spanOf false cell (recordAt cell k)))
         (rest-sight ∙ rw (named-only pair-held (fault-told cell n (pair-read .0) .1) k rcnm rcid low high is))
 
     -- "22 Absent: Show finds no such name"
-    pub none-shown : ((k : ℕ) → 3 ≤ k → k < n → isNamed cell (recordAt cell k) rcnm rcid ≡ false) → Gives cell update w rcnm rcid (answer 22 0 0 0 0) []
-    unfolding cellSight foundSight absent sightAnswer sightBytes firstItem
+    pub none-shown : ((k : ℕ) → 3 ≤ k → k < n → isNamed cell (recordAt cell k) rcnm rcid ≡ false) → Gives cell update w rcnm rcid (answer 22 0 0 0 0) [] (ofCell 0)
+    unfolding cellSight foundSight absent sightAnswer sightBytes sightPlace firstItem
     none-shown none = gives cell update w rcnm rcid absent (rest-sight ∙ rw (named-none false cell n rcnm rcid none))
 
   pub class-absent : ((i : ℕ) → byteAt cell i < 256) → ((i : ℕ) → byteAt update i < 256) → rcid < 4294967296 → isClass rcnm ≡ false
-      → Gives cell update w rcnm rcid (answer 22 0 0 0 0) []
-  unfolding bothSight cellSight foundSight absent sightAnswer sightBytes
+      → Gives cell update w rcnm rcid (answer 22 0 0 0 0) [] (ofCell 0)
+  unfolding bothSight cellSight foundSight absent sightAnswer sightBytes sightPlace
   class-absent held come small other =
       gives cell update w rcnm rcid absent
       (pair-sight

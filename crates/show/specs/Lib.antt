@@ -1,6 +1,7 @@
 -- The notions of `show`, in the order in which a reader should meet them.
 pub mod Named
 pub mod Show
+pub mod Place
 pub mod Shows
 pub mod Listed
 pub mod Examples

@@ -23,7 +23,7 @@ pub fn show<'a>(
     rcnm: u32,
     rcid: u32,
 ) -> &'a [u8]
-    ensures { λ r. ⌜ Shows (now (cell .entry)) (now (update .entry)) (now (work .entry)) (now (work .exit)) (now (answer .entry)) (now (answer .exit)) rcnm rcid (now r) ⌝ }
+    ensures { λ r. ⌜ Shows (now (cell .entry)) (now (update .entry)) (now (work .entry)) (now (work .exit)) (now (answer .entry)) (now (answer .exit)) rcnm rcid (now r) (cell .entry .ptr) (update .entry .ptr) (r .ptr) ⌝ }
 {
     let sight = seen(cell, update, work, rcnm, rcid);
     put_answer(sight_answer(sight), answer);

@@ -2,6 +2,7 @@
 ghost use mathlib.Core.Bool.{true, false};
 ghost use mathlib.Core.Path.{_≡_};
 ghost use Rattle.show.specs.Show.{cellSight, bothSight, sightAnswer, sightBytes};
+ghost use Rattle.show.specs.Place.{sightPlace};
 ghost use Rattle.show.specs.Listed.{Listed, BothListed, SightIn};
 use crate::named::place_named;
 use crate::span::Span;
@@ -64,6 +65,7 @@ pub fn sight_answer(sight: Sight) -> Answer
 pub fn sight_part<'a>(cell: &'a [u8], update: &'a [u8], sight: Sight) -> &'a [u8]
     requires { ⌜ SightIn (now cell) (now update) sight ⌝ }
     ensures { λ r. ⌜ now r ≡ sightBytes (now (cell .entry)) (now (update .entry)) sight ⌝ }
+    ensures { λ r. ⌜ r .ptr ≡ sightPlace (cell .entry .ptr) (update .entry .ptr) sight ⌝ }
 {
     let Sight::Shown(span) = sight else {
         let none: usize = 0;

@@ -4,6 +4,7 @@ ghost use mathlib.Core.Path.{_≡_};
 ghost use lib.ListN.{length, take, drop};
 ghost use Rattle.iso8211.specs.Field.{FramedAt};
 ghost use Rattle.show.specs.Show.{spanOf, bytesOfSpan};
+ghost use Rattle.show.specs.Place.{within, placeOfSpan};
 ghost use Rattle.show.specs.Listed.{SpanIn};
 use iso8211::field::record_end;
 
@@ -31,6 +32,7 @@ pub fn span_of(s: &[u8], at: usize, update: bool) -> Span
 fn part(s: &[u8], from: usize, size: usize) -> &[u8]
     requires { ⌜ from + size ≤ length (now s) ⌝ }
     ensures { λ r. ⌜ now r ≡ take size (drop from (now (s .entry))) ⌝ }
+    ensures { λ r. ⌜ r .ptr ≡ within (s .entry .ptr) from ⌝ }
 {
     let to = from + size;
     &s[from..to]
@@ -40,6 +42,7 @@ fn part(s: &[u8], from: usize, size: usize) -> &[u8]
 pub fn lent<'a>(cell: &'a [u8], update: &'a [u8], span: Span) -> &'a [u8]
     requires { ⌜ SpanIn (now cell) (now update) span ⌝ }
     ensures { λ r. ⌜ now r ≡ bytesOfSpan (now (cell .entry)) (now (update .entry)) span ⌝ }
+    ensures { λ r. ⌜ r .ptr ≡ placeOfSpan (cell .entry .ptr) (update .entry .ptr) span ⌝ }
 {
     if span.update {
         return part(update, span.from, span.size);

@@ -1,4 +1,4 @@
--- What Show gives of the small cell, alone and with the update that moves node 2, computed to the bytes. Assumes nothing.
+-- What Show gives of the small cell, alone and with the update that moves node 2, computed to the bytes and their place. Assumes nothing.
 use Prim.Native.Nat.{ℕ, _*_, _≤_}
 use mathlib.Core.Bool.{Bool, true, false, cond}
 use mathlib.Core.List.{List, [], _∷_, flatten}
@@ -13,8 +13,9 @@ use Rattle.reader.specs.declared.answer.Answer.{Answer}
 use Rattle.reader.specs.declared.front.Front.the-variants.{Count, Refused}
 use Rattle.show.specs.Show.{absent, cellSight, bothSight, afterReading, aloneSight, pairSight, secondSight, updateSight, firstSight, sightOf, sightAnswer, bytesOfSpan, sightBytes}
 use Rattle.show.specs.Show.{showOf, shownPart}
+use Rattle.show.specs.Place.{within, placeOfSpan, sightPlace, shownPlace}
 use Rattle.show.specs.declared.sight.Sight.the-variants.{Shown, Denied}
-use Rattle.show.proofs.Exactly.{Gives}
+use Rattle.show.proofs.Exactly.{ofCell, ofUpdate, Gives}
 use Rattle.witness.specs.Records.{fieldEnd, vrid, pair, node}
 use Rattle.witness.specs.SmallCell.{small}
 use Rattle.witness.specs.SmallUpdates.{moving}
@@ -23,13 +24,13 @@ use Rattle.witness.proofs.Computing.{judging, applying, smallFiles, sho
 -- ---- the answer and the part, from what is seen
 module _ {cell update : List ℕ} {w rcnm rcid : ℕ} where
   shown : (second : Bool) (from size : ℕ) {part : List ℕ} → sightOf cell update w rcnm rcid ≡ Shown (record { update = second; from = from; size = size })
-      → take size (drop from (cond second update cell)) ≡ part → Gives cell update w rcnm rcid (answer 0 0 0 size 0) part
-  unfolding showOf shownPart sightAnswer sightBytes bytesOfSpan
-  shown second from size seen is = record { answered = rw seen; shown = rw seen is }
+      → take size (drop from (cond second update cell)) ≡ part → Gives cell update w rcnm rcid (answer 0 0 0 size 0) part (λ here there. within (cond second there here) from)
+  unfolding showOf shownPart shownPlace sightAnswer sightBytes bytesOfSpan sightPlace placeOfSpan
+  shown second from size seen is = record { answered = rw seen; shown = rw seen is; lies = λ here there. rw seen }
 
-  denied : {a : Answer} → sightOf cell update w rcnm rcid ≡ Denied a → Gives cell update w rcnm rcid a []
-  unfolding showOf shownPart sightAnswer sightBytes
-  denied seen = record { answered = rw seen; shown = rw seen }
+  denied : {a : Answer} → sightOf cell update w rcnm rcid ≡ Denied a → Gives cell update w rcnm rcid a [] (ofCell 0)
+  unfolding showOf shownPart shownPlace sightAnswer sightBytes sightPlace
+  denied seen = record { answered = rw seen; shown = rw seen; lies = λ here there. rw seen }
 
 -- ---- both files are readable: the cell has seven records, the update three
 small-front : frontOf 1 small ≡ Count 7
@@ -70,7 +71,7 @@ node-bytes : take 67 (drop 1027 small) ≡ node 4 1 1 0
 unfolding judging smallFiles
 node-bytes = refl
 
-pub node-shown : (w : ℕ) → 112 ≤ w → Gives small [] w 120 1 (answer 0 0 0 67 0) (node 4 1 1 0)
+pub node-shown : (w : ℕ) → 112 ≤ w → Gives small [] w 120 1 (answer 0 0 0 67 0) (node 4 1 1 0) (ofCell 1027)
 node-shown w work = shown false 1027 67 (alone w 120 1 work ∙ node-seen) node-bytes
 
 -- "Show finds no such name": there is no node 3
@@ -78,7 +79,7 @@ none-seen : cellSight small 7 120 3 ≡ Denied (answer 22 0 0 0 0)
 unfolding judging smallFiles showing
 none-seen = refl
 
-pub absent-22 : (w : ℕ) → 112 ≤ w → Gives small [] w 120 3 (answer 22 0 0 0 0) []
+pub absent-22 : (w : ℕ) → 112 ≤ w → Gives small [] w 120 3 (answer 22 0 0 0 0) [] (ofCell 0)
 absent-22 w work = denied (alone w 120 3 work ∙ none-seen)
 
 -- "that vector or feature record": record 1 has RCNM 10 and RCID 1, and is neither
@@ -86,11 +87,11 @@ class-seen : cellSight small 7 10 1 ≡ Denied (answer 22 0 0 0 0)
 unfolding judging smallFiles showing
 class-seen = refl
 
-pub class-22 : (w : ℕ) → 112 ≤ w → Gives small [] w 10 1 (answer 22 0 0 0 0) []
+pub class-22 : (w : ℕ) → 112 ≤ w → Gives small [] w 10 1 (answer 22 0 0 0 0) [] (ofCell 0)
 class-22 w work = denied (alone w 10 1 work ∙ class-seen)
 
 -- a byte of work too few: 3, with the bytes needed, whatever the name
-pub alone-3 : (rcnm rcid : ℕ) → Gives small [] 111 rcnm rcid (answer 3 0 0 112 0) []
+pub alone-3 : (rcnm rcid : ℕ) → Gives small [] 111 rcnm rcid (answer 3 0 0 112 0) [] (ofCell 0)
 unfolding sightOf firstSight updateSight aloneSight afterReading cellChecked workAnswer
 alone-3 rcnm rcid = denied (rw small-front)
 
@@ -110,7 +111,7 @@ moved-bytes : take 80 (drop 581 moving) ≡ movedNode
 unfolding judging smallFiles movedNode
 moved-bytes = refl
 
-pub update-shown : (w : ℕ) → 160 ≤ w → Gives small moving w 120 2 (answer 0 0 0 80 0) movedNode
+pub update-shown : (w : ℕ) → 160 ≤ w → Gives small moving w 120 2 (answer 0 0 0 80 0) movedNode (ofUpdate 581)
 update-shown w work = shown true 581 80 (both w 120 2 work ∙ moved-seen) moved-bytes
 
 -- "else of the cell": node 1
@@ -118,7 +119,7 @@ kept-seen : bothSight small 7 moving 3 120 1 ≡ Shown (record { update = false;
 unfolding judging smallFiles showing
 kept-seen = refl
 
-pub cell-shown : (w : ℕ) → 160 ≤ w → Gives small moving w 120 1 (answer 0 0 0 67 0) (node 4 1 1 0)
+pub cell-shown : (w : ℕ) → 160 ≤ w → Gives small moving w 120 1 (answer 0 0 0 67 0) (node 4 1 1 0) (ofCell 1027)
 cell-shown w work = shown false 1027 67 (both w 120 1 work ∙ kept-seen) node-bytes
 
 -- neither has node 3; record 1 of both has RCNM 10 and RCID 1
@@ -130,11 +131,11 @@ both-class : bothSight small 7 moving 3 10 1 ≡ Denied (answer 22 0 0 0 0)
 unfolding judging smallFiles showing
 both-class = refl
 
-pub both-22 : (w : ℕ) → 160 ≤ w → Gives small moving w 120 3 (answer 22 0 0 0 0) [] × Gives small moving w 10 1 (answer 22 0 0 0 0) []
+pub both-22 : (w : ℕ) → 160 ≤ w → Gives small moving w 120 3 (answer 22 0 0 0 0) [] (ofCell 0) × Gives small moving w 10 1 (answer 22 0 0 0 0) [] (ofCell 0)
 both-22 w work = (denied (both w 120 3 work ∙ both-none), denied (both w 10 1 work ∙ both-class))
 
 -- a byte of work too few
-pub both-3 : (rcnm rcid : ℕ) → Gives small moving 159 rcnm rcid (answer 3 0 0 160 0) []
+pub both-3 : (rcnm rcid : ℕ) → Gives small moving 159 rcnm rcid (answer 3 0 0 160 0) [] (ofCell 0)
 unfolding sightOf firstSight updateSight secondSight pairSight afterReading bothChecked workAnswer
 both-3 rcnm rcid = denied (rw (small-front, moving-length, moving-front))
 
@@ -143,6 +144,6 @@ byte-front : frontOf 2 (0 ∷ []) ≡ Refused (answer 2 2 0 0 0)
 unfolding judging
 byte-front = refl
 
-pub byte-2 : (w rcnm rcid : ℕ) → Gives small (0 ∷ []) w rcnm rcid (answer 2 2 0 0 0) []
+pub byte-2 : (w rcnm rcid : ℕ) → Gives small (0 ∷ []) w rcnm rcid (answer 2 2 0 0 0) [] (ofCell 0)
 unfolding sightOf firstSight updateSight secondSight
 byte-2 w rcnm rcid = denied (rw (small-front, byte-front))

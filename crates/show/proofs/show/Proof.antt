@@ -1,6 +1,7 @@
 -- What was seen, told and lent. Assumes nothing.
 use Rattle.show.proofs.SightLaws.{sight-in}
 use Rattle.show.proofs.CallLaws.{show-part, show-area}
+use Rattle.show.proofs.PlaceLaws.{show-place}
 use borrow.Author.Needs.{needs}
 use Rattle.show.proofs.show.Statement.{statement}
 use Rattle.show.proofs.show.Tie as tie
@@ -29,9 +30,10 @@ returns c =
     let told = c .before .before .before .before .before .sight-answer .ensures in
     let put = c .before .before .before .put-answer .ensures in
     record {
-      bytes = show-part _ _ _ _ _ _ (seen .0) _ (c .sight-part .ensures);
+      bytes = show-part _ _ _ _ _ _ (seen .0) _ (c .sight-part .ensures .0);
       area = show-area _ _ _ _ _ _ (seen .0) _ _ _ told put;
       zero = seen .1;
+      place = show-place _ _ _ _ _ _ _ _ (seen .0) _ (c .sight-part .ensures .1);
     }
 
 pub show-spec : {M : Type 1} → statement M

@@ -1,5 +1,6 @@
 -- By the two cases. Assumes nothing.
 use Rattle.show.proofs.SightLaws.{shown-in, shown-part, denied-part}
+use Rattle.show.proofs.PlaceLaws.{shown-place, denied-there, denied-place}
 use borrow.Author.Needs.{needs}
 use Rattle.show.proofs.sight.sight_part.Statement.{statement}
 use Rattle.show.proofs.sight.sight_part.Tie as tie
@@ -20,13 +21,13 @@ part-result-end : tie.Need-part-result-end
 part-result-end c = search needs
 
 returns : tie.Need-returns
-returns c = search (needs, denied-part)
+returns c = (search (needs, denied-part), denied-place _ _ _ _ (search (needs, denied-there)) (search needs) (search needs))
 
 lent-requires : tie.Need-lent-requires
 lent-requires c κs = search (needs, shown-in)
 
 returns-2 : tie.Need-returns-2
-returns-2 c = search (needs, shown-part)
+returns-2 c = (search (needs, shown-part), search (needs, shown-place))
 
 pub sight-part-spec : {M : Type 1} → statement M
 sight-part-spec =

@@ -1,5 +1,6 @@
 -- The end of the part less its start is its size. Assumes nothing.
 use Rattle.show.proofs.SightLaws.{part-same}
+use Rattle.show.proofs.PlaceLaws.{part-place}
 use borrow.Author.Needs.{needs}
 use Rattle.show.proofs.span.part.Statement.{statement}
 use Rattle.show.proofs.span.part.Tie as tie
@@ -17,7 +18,7 @@ part-result-end : tie.Need-part-result-end
 part-result-end c = search needs
 
 returns : tie.Need-returns
-returns c = search (needs, part-same)
+returns c = (search (needs, part-same), part-place _ _ _ (search needs) (search needs))
 
 pub part-spec : {M : Type 1} → statement M
 part-spec = tie.close (tie.spec add-to sub-result part-result-start part-result-end returns)
