@@ -16,7 +16,6 @@ use Rattle.names.specs.declared.lookup.Found.{Found}
 use Rattle.names.specs.declared.lookup.Found.the-variants.{At, Nothing}
 use Rattle.reader.specs.Reader.{frontOf, twiceRefusal, cellFault, updateFault, cellChecked, bothChecked, Short}
 use Rattle.reader.specs.declared.answer.Answer.{Answer}
-use Rattle.reader.specs.declared.front.Front.{Front}
 use Rattle.reader.specs.declared.front.Front.the-variants.{Count}
 use Rattle.reader.proofs.CallLaws.{counted}
 use Rattle.loader.specs.Answer.{answerBytes}
