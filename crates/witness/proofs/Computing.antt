@@ -1,4 +1,4 @@
--- The definitions that Judge, Admit, Apply and Show stand on, under four names, and those of the small files under two more: what unfolds one of the six unfolds
+-- The definitions that Judge, Admit and Apply stand on, under three names, and those of the small files under a fourth: what unfolds one of the four unfolds
 -- all that it stands for, so that a call on a small file computes. Nothing here need be believed. Assumes nothing.
 use Prim.Native.Nat.{ℕ}
 use mathlib.Core.List.{flatten}
@@ -81,14 +81,10 @@ use Rattle.changes.specs.Follow.{chartName, followCode}
 use Rattle.changes.specs.Updated.{updatedHeader, amended, updated}
 use Rattle.verdict.specs.Verdict.{objectItems, chartTopology}
 use Rattle.loader.specs.Apply.{firstAnswer, changeAnswer, applyChecked, applySecond, applyFirst, applyOf, appliedArea, secondArea, firstArea, applyArea}
-use Rattle.show.specs.Named.{isNamed, namedFrom, namedIn}
-use Rattle.show.specs.Show.{spanOf, foundSight, absent, cellSight, bothSight}
 use Rattle.witness.specs.Records.{declared, declaredFirst, declaredDsid, declaredDssi, declaredVrid, declaredPairs, declaredFrid, declaredFoid, dsid, dssi, heading}
 use Rattle.witness.specs.Records.{cellHeading, updateHeading, parameters, vrid, pair, node, end, edge, frid, foid, feature}
 use Rattle.witness.specs.SmallCell.{cellFirst, cellFront, small, ringed}
 use Rattle.witness.specs.SmallUpdates.{vectorFirst, shift, vectorUpdate, moving, deleting, heldSmall, heldMoved, heldDeleted}
-use Rattle.witness.specs.OtherUpdates.{elsewhere, heldElsewhere, fromZero, vectorDelete, sinking, inserting, lineUpdate, clearing, valued, naming, emptying, removing}
-use Rattle.witness.specs.OtherUpdates.{masking, faulty}
 
 -- Judge, and the answer area
 unfoldable pub judging : ℕ
@@ -130,13 +126,3 @@ unfoldable pub smallFiles : ℕ
 unfolding declared declaredFirst declaredDsid declaredDssi declaredVrid declaredPairs declaredFrid declaredFoid dsid dssi heading cellHeading updateHeading parameters vrid pair
     node end edge frid foid feature cellFirst cellFront small ringed vectorFirst shift vectorUpdate moving deleting heldSmall heldMoved heldDeleted
 smallFiles = 0
-
--- the other updates, besides
-unfoldable pub otherFiles : ℕ
-unfolding elsewhere heldElsewhere fromZero vectorDelete sinking inserting lineUpdate clearing valued naming emptying removing masking faulty
-otherFiles = 0
-
--- Show, besides: what is seen of files that reading doesn't refuse
-unfoldable pub showing : ℕ
-unfolding isNamed namedFrom namedIn spanOf foundSight absent cellSight bothSight
-showing = 0

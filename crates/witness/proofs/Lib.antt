@@ -6,10 +6,7 @@ pub mod WorkLaws
 pub mod Judged
 pub mod Admitted
 pub mod Applied
-pub mod Edited
 pub mod Wrong
 pub mod Demand2
 pub mod Offered
 pub mod Units
-pub mod Premise
-pub mod Shown

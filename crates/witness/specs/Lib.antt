@@ -2,6 +2,5 @@
 pub mod Records
 pub mod SmallCell
 pub mod SmallUpdates
-pub mod OtherUpdates
 pub mod Loaders
 pub mod SmallOffers

@@ -12,10 +12,11 @@ use Rattle.changes.specs.Amend.{changeFault}
 use Rattle.loader.specs.Apply.{applyOf}
 use Rattle.demands.specs.Cell.{recordsIn}
 use Rattle.demands.specs.Update.{fileChange, updatedBy}
 use Rattle.witness.specs.SmallCell.{small}
 use Rattle.witness.specs.SmallUpdates.{chartSmall}
-use Rattle.witness.specs.OtherUpdates.{fromZero, sinking, inserting, clearing, naming, emptying, removing, masking, faulty}
-use Rattle.witness.proofs.Computing.{judging, admitting, applying, smallFiles, otherFiles}
+use Rattle.cases.specs.OtherUpdates.{fromZero, sinking, inserting, clearing, naming, emptying, removing, masking, faulty}
+use Rattle.witness.proofs.Computing.{judging, admitting, applying, smallFiles}
+use Rattle.cases.proofs.Computing.{otherFiles}
 
 -- ---- "Errors we have met": "Counting list indexes from 0": index 0 is refused
 pub index-zero : applyOf small fromZero 160 2077 ≡ answer 16 2 2 0 581

@@ -16,10 +16,11 @@ use Rattle.show.specs.Show.{showOf, shownPart}
 use Rattle.show.specs.Place.{within, placeOfSpan, sightPlace, shownPlace}
 use Rattle.show.specs.declared.sight.Sight.the-variants.{Shown, Denied}
 use Rattle.show.proofs.Exactly.{ofCell, ofUpdate, Gives}
 use Rattle.witness.specs.Records.{fieldEnd, vrid, pair, node}
 use Rattle.witness.specs.SmallCell.{small}
 use Rattle.witness.specs.SmallUpdates.{moving}
-use Rattle.witness.proofs.Computing.{judging, applying, smallFiles, showing}
+use Rattle.witness.proofs.Computing.{judging, applying, smallFiles}
+use Rattle.cases.proofs.Computing.{showing}
 
 -- ---- the answer and the part, from what is seen
 module _ {cell update : List ℕ} {w rcnm rcid : ℕ} where

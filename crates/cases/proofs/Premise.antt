@@ -21,16 +21,17 @@ use Rattle.unit.specs.Reissue.{chartNumber, shown, numberOf, OneEach}
 use Rattle.unit.proofs.CallLaws.{offered-done}
 use Rattle.unit.proofs.OfferLaws.{in-each}
 use Rattle.unit.proofs.UnitLaws.{same-number-same-bytes}
 use Rattle.witness.specs.SmallCell.{small}
 use Rattle.witness.specs.SmallUpdates.{moving, chartSmall, heldSmall, heldMoved}
-use Rattle.witness.specs.OtherUpdates.{elsewhere, heldElsewhere}
+use Rattle.cases.specs.OtherUpdates.{elsewhere, heldElsewhere}
 use Rattle.witness.specs.SmallOffers.{room, lent}
-use Rattle.witness.proofs.Computing.{judging, admitting, applying, smallFiles, otherFiles}
+use Rattle.witness.proofs.Computing.{judging, admitting, applying, smallFiles}
+use Rattle.cases.proofs.Computing.{otherFiles}
 use Rattle.witness.proofs.BytesLaws.{isByte, bytes-tested}
 use Rattle.witness.proofs.Admitted.{small-bytes, small-held, room-length}
 use Rattle.witness.proofs.Applied.{small-means, small-whole, small-records, moving-bytes}
 use Rattle.witness.proofs.HeldLaws.{held-means, next-whole, accepted-here}
 use Rattle.witness.proofs.Offered.{shown-each, first-taken, room-accepted, begins}
 
 -- ---- computed
 elsewhere-bytes : Bytes elsewhere

@@ -1,0 +1,2 @@
+-- The notion of `cases`.
+pub mod OtherUpdates
