@@ -29,7 +29,7 @@ pub record UpdateOf (c : Chart) (file : List ℕ) : Type 0 where
 
 -- a premise of ours, not the demand's words: of the files offered to any unit that read as updates of the base's name and edition, any two with the same number are
 -- the same bytes. It is how we read "every update up to the number shown": without it two units that show the same number can hold other bytes (`premise-needed`, crate
--- `witness`, computes two), and a number would name no update. Nothing is asked of files that aren't readable, nor of those of another name or edition
+-- `cases`, computes two), and a number would name no update. Nothing is asked of files that aren't readable, nor of those of another name or edition
 pub record OneEach (Offered : List ℕ → Type 0) (base : Chart) : Type 0 where
   pub same : (a b : List ℕ) → Offered a → Offered b → UpdateOf base a → UpdateOf base b → numberOf a ≡ numberOf b → a ≡ b
 

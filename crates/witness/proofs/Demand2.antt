@@ -44,7 +44,7 @@ accepted = small-accepted 112 2077 (omega arith) (omega arith)
 
 -- ---- Judge: `judged-exactly`
 pub small-judgeable : Judgeable small 112
-small-judgeable = judged-exactly small 112 small-bytes .0 (code-of small-judged)
+small-judgeable = judged-exactly small 112 small-bytes .0 (code-of (small-judged 112 (omega arith)))
 
 -- ---- Admit: `admitted-exactly` and `admit-writes` are met in Admitted.antt
 -- `admit-refuses`: a byte of work too few

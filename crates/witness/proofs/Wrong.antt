@@ -104,7 +104,7 @@ versions = (refl, refl)
 
 -- ---- "a loader that refuses everything"
 pub not-nothing-judged : {judge : Judger} → KeepsJudge judge → JudgesNothing judge → ⊥
-not-nothing-judged k wrong = wrong .never small 112 (code-of (k .told small 112 ∙ small-judged))
+not-nothing-judged k wrong = wrong .never small 112 (code-of (k .told small 112 ∙ small-judged 112 (omega arith)))
 
 pub not-nothing-admitted : {admit : Admitter} → KeepsAdmit admit → AdmitsNothing admit → ⊥
 not-nothing-admitted k wrong = wrong .never small 112 room (code-of (small-told k))
@@ -124,7 +124,7 @@ empty-judged = refl
 
 pub not-alike-judged : {judge : Judger} → KeepsJudge judge → JudgesAlike judge → ⊥
 not-alike-judged {judge} k wrong =
-    let zero : judge small 112 .code ≡ 0 = code-of (k .told small 112 ∙ small-judged) in
+    let zero : judge small 112 .code ≡ 0 = code-of (k .told small 112 ∙ small-judged 112 (omega arith)) in
     let two : judge [] 112 .code ≡ 2 = code-of (k .told [] 112) ∙ empty-judged in
     let same = wrong .alike small [] 112 in
     omega arith
