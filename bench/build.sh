@@ -11,45 +11,36 @@ archive=${1:-$top/target/staticlib/libprobe.a}
 out=${BENCH_OUT:-$top/target/bench}
 strict='-std=c11 -Wall -Wextra -Wpedantic -Werror'
 
-# The programs, one a line: its name, and the crate whose archive it is linked with, or `alone` for one that is built for this very
-# machine with the sanitizers.
+# The programs, one a line: the folder and name of its file, and the crate whose archive it is linked with, or `alone` for one that is built for
+# this very machine with the sanitizers. Every other .c file of a folder is a part that any of them may use.
 programs='
-make_harbour alone
-make_corrections alone
-make_cells alone
-write_held alone
-sanitize_frame alone
-sanitize_read alone
-sanitize_judge alone
-sanitize_admit alone
-sanitize_apply alone
-sanitize_show alone
-compare_listing alone
-compare_frame probe
-compare_read probe
-compare_show probe
-compare_judge s57
-compare_admit s57
-compare_apply s57
-boundary_judge s57
-boundary_admit s57
-boundary_apply s57
-offers s57
-speed_frame probe
-speed_read probe
-speed_judge s57
-speed_admit s57
-speed_apply s57
+make/make_harbour alone
+make/make_corrections alone
+make/make_cells alone
+make/write_held alone
+tests/sanitize_frame alone
+tests/sanitize_read alone
+tests/sanitize_judge alone
+tests/sanitize_admit alone
+tests/sanitize_apply alone
+tests/sanitize_show alone
+tests/compare_listing alone
+tests/compare_frame probe
+tests/compare_read probe
+tests/compare_show probe
+tests/compare_judge s57
+tests/compare_admit s57
+tests/compare_apply s57
+tests/boundary_judge s57
+tests/boundary_admit s57
+tests/boundary_apply s57
+tests/offers s57
+speed/speed_frame probe
+speed/speed_read probe
+speed/speed_judge s57
+speed/speed_admit s57
+speed/speed_apply s57
 '
-
-# What every program may use: the reader, the generator, and what the programs share.
-reader='reader_frame reader_formats reader_table reader_describe reader_layout reader_values reader_names reader_read
-    reader_topology reader_listing reader_first reader_items reader_held reader_edits reader_apply reader_show'
-generator='generate_frame generate_broken generate_large generate_formats generate_chart generate_describe generate_scene
-    generate_update faults_describe faults_layout faults_values faults_names generate_read generate_damage generate_hostile
-    generate_judge generate_heavy faults_topology generate_listing generate_held generate_admit generate_limits
-    generate_pair generate_back generate_series faults_update generate_apply generate_busy generate_grown generate_sheet generate_show'
-shared='buffer areas boundary tally speed check_held cover_apply cases_frame cases_read cases_judge cases_admit cases_apply cases_show'
 
 # shellcheck source=compiler.sh
 . "$here/compiler.sh"
@@ -62,33 +53,56 @@ out=$(cd "$out" && pwd -P)
 archives=$(cd "$(dirname "$archive")" 2>/dev/null && pwd -P) || archives=
 cd "$here"
 
-# compile OBJECTS COMMAND: what the programs share, once for each way of building.
-# shellcheck disable=SC2086
-# (the word lists above are meant to be split)
-compile() {
-    objects=$1
-    shift
-    rm -rf "$objects"
-    mkdir -p "$objects"
-    for name in $reader $generator $shared; do
-        $1 -c "$name.c" -o "$objects/$name.o"
+# What is no program.
+parts() {
+    for file in */*.c; do
+        case $programs in
+        *"
+${file%.c} "*) ;;
+        *) echo "${file%.c}" ;;
+        esac
     done
 }
 
-compile "$out/alone" "$alone"
-compile "$out/linked" "$linked"
-missing=
-for program in $(echo "$programs" | tr ' ' ':'); do
-    name=${program%:*}
-    crate=${program#*:}
-    if [ "$crate" = alone ]; then
-        # shellcheck disable=SC2086
-        $alone "$name.c" "$out"/alone/*.o -o "$out/$name"
-    elif [ -f "$archives/lib$crate.a" ]; then
-        # shellcheck disable=SC2086
-        $linked "$name.c" "$out"/linked/*.o "$archives/lib$crate.a" -o "$out/$name"
-    else
-        missing="$missing $name"
-    fi
-done
-[ -z "$missing" ] || { echo "bench/build.sh: not built, their archives are missing beside $archive:$missing" >&2; exit 2; }
+# The parts, and then the programs of one way of building.
+# shellcheck disable=SC2086
+# (a command's words are meant to be split)
+compile() { # OBJECTS COMMAND
+    rm -rf "$1"
+    for part in $(parts); do
+        mkdir -p "$1/${part%/*}"
+        $2 -c "$part.c" -o "$1/$part.o"
+    done
+}
+
+# shellcheck disable=SC2086
+build_alone() {
+    compile "$out/alone" "$alone"
+    for program in $(echo "$programs" | sed -n 's/ alone$//p'); do
+        $alone "$program.c" "$out"/alone/*/*.o -o "$out/${program#*/}"
+    done
+}
+
+# shellcheck disable=SC2086
+build_linked() {
+    compile "$out/linked" "$linked"
+    missing=
+    for program in $(echo "$programs" | sed -e '/ alone$/d' -e 's/ /:/'); do
+        file=${program%:*}
+        library=$archives/lib${program#*:}.a
+        if [ -f "$library" ]; then
+            $linked "$file.c" "$out"/linked/*/*.o "$library" -o "$out/${file#*/}"
+        else
+            missing="$missing ${file#*/}"
+        fi
+    done
+    [ -z "$missing" ] || { echo "bench/build.sh: not built, their archives are missing beside $archive:$missing" >&2; exit 2; }
+}
+
+# side by side
+build_alone &
+first=$!
+build_linked &
+second=$!
+wait "$first"
+wait "$second"

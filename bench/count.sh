@@ -15,15 +15,11 @@ close() {
     exit
 }
 
-# Runs a command that counts, shows all that it says and keeps it in LOG, and adds its count. One that
-# ends with a status of its own, or whose last line is no count, or that counted nothing, has failed.
-counted() { # NAME LOG COMMAND..
-    local name=$1 log=$2 status last
-    shift 2
-    echo "---- $name"
-    "$@" </dev/null 2>&1 | tee "$log"
-    status=${PIPESTATUS[0]}
-    last=$(tail -n 1 "$log")
+# Adds the count at the end of what a command said, which is in LOG. One that ended with a status of its own, or
+# whose last line is no count, or that counted nothing, has failed.
+add_count() { # NAME LOG STATUS
+    local name=$1 status=$3 last
+    last=$(tail -n 1 "$2")
     if [[ ! $last =~ ^([0-9]+)\ passed,\ ([0-9]+)\ failed$ ]]; then
         fault "$name ended with status $status and no count"
         return
@@ -35,4 +31,13 @@ counted() { # NAME LOG COMMAND..
         [ "$good" -gt 0 ] || fault "$name counted nothing"
         [ "$status" -eq 0 ] || fault "$name ended with status $status"
     fi
+}
+
+# Runs a command that counts, shows all that it says and keeps it in LOG, and adds its count.
+counted() { # NAME LOG COMMAND..
+    local name=$1 log=$2
+    shift 2
+    echo "---- $name"
+    "$@" </dev/null 2>&1 | tee "$log"
+    add_count "$name" "$log" "${PIPESTATUS[0]}"
 }

@@ -5,8 +5,9 @@
 # nothing failed. Wants `rt`, and the compilers that .ci/run installs.
 #
 # bench/build.sh ARCHIVE compiles the programs, bench/run.sh runs one, and bench/tests.txt names those
-# that are tests, one a line ('#' starts a comment). A test that doesn't end with the line 'N passed, M
-# failed', or that takes over LIMIT seconds, has failed.
+# that are tests, one a line ('#' starts a comment). As many of them run side by side as there are processors,
+# at most four. A test that doesn't end with the line 'N passed, M failed', or that takes over LIMIT seconds,
+# has failed.
 set -u
 if ! cd "$(dirname "$0")/.." || ! . bench/count.sh; then
     echo '0 passed, 1 failed'
@@ -31,15 +32,50 @@ if ! rt check listing || [ ! -x target/bin/listing ]; then
 fi
 bench/build.sh "$archives/libprobe.a" || fault 'bench/build.sh could not build every program'
 
-# ---- run
-tests=$(sed -e 's/#.*//' -e 's/[[:space:]]//g' -e '/^$/d' bench/tests.txt)
-[ -n "$tests" ] || fault 'bench/tests.txt names no test'
-for name in $tests; do
-    if [ -x "$BENCH_OUT/$name" ]; then
-        counted "host test $name" "$BENCH_OUT/$name.log" timeout "$limit" bench/run.sh "$name"
-    else
-        fault "$name was not built"
-    fi
+counted 'the directions in bench' "$BENCH_OUT/directions.log" bench/check-directions.sh
+
+# ---- run: several tests side by side, each with a log of its own, which is shown whole when its turn in the list has come
+mapfile -t tests < <(sed -e 's/#.*//' -e 's/[[:space:]]//g' -e '/^$/d' bench/tests.txt)
+[ "${#tests[@]}" -gt 0 ] || fault 'bench/tests.txt names no test'
+lanes=$(nproc)
+[ "$lanes" -le 4 ] || lanes=4
+
+# A test has ended when it has left its status and its seconds.
+run_test() { # NAME
+    local start=$SECONDS
+    timeout "$limit" bench/run.sh "$1" >"$BENCH_OUT/$1.log" 2>&1 </dev/null
+    echo "$? $((SECONDS - start))" >"$BENCH_OUT/$1.ended"
+}
+
+show_test() { # NAME
+    local status=none seconds=0
+    [ ! -s "$BENCH_OUT/$1.ended" ] || read -r status seconds <"$BENCH_OUT/$1.ended"
+    echo "---- host test $1, $seconds s"
+    cat "$BENCH_OUT/$1.log"
+    add_count "host test $1" "$BENCH_OUT/$1.log" "$status"
+}
+
+# Those that have ended, up to the first that hasn't.
+shown=0
+show_ended() {
+    while [ "$shown" -lt "${#tests[@]}" ] && [ -s "$BENCH_OUT/${tests[shown]}.ended" ]; do
+        show_test "${tests[shown]}"
+        shown=$((shown + 1))
+    done
+}
+
+for name in "${tests[@]}"; do
+    while [ "$(jobs -pr | wc -l)" -ge "$lanes" ]; do
+        wait -n
+        show_ended
+    done
+    run_test "$name" &
 done
+wait
+for name in "${tests[@]:shown}"; do
+    show_test "$name"
+done
+
+# ---- alone: the example host is cut off at moments that are measured, which wants a quiet machine
 counted 'the example host' "$BENCH_OUT/host.log" timeout "$limit" host/tests.sh
 close

@@ -25,5 +25,5 @@ program() { # NAME WORDS..
 
 program judge judge.c common.c
 program unit unit.c keep.c shown.c common.c
-program unit_faults unit.c keep.c shown.c common.c faults.c \
+program unit_faults unit.c keep.c shown.c common.c tests/faults.c \
     -Wl,--wrap=openat,--wrap=read,--wrap=write,--wrap=fsync,--wrap=close,--wrap=renameat,--wrap=unlinkat

@@ -110,7 +110,7 @@ static inline struct s57_answer s57_answer_read(const uint8_t *area)
 
    What the host owes: each pointer leads to as many bytes as it says, at any address, aligned or not; the two areas overlap neither each other nor
    the cell; and nobody else writes to any of the three, or reads the areas, until the call returns. No pointer is null, not even one of
-   length 0. Nothing is read or written through a pointer of length 0: the tests (bench/boundary_judge.c) lend one to an address that has no memory. */
+   length 0. Nothing is read or written through a pointer of length 0: the tests (bench/tests/boundary_judge.c) lend one to an address that has no memory. */
 uint32_t s57_judge(const uint8_t *cell, size_t cell_len, uint8_t *work, size_t work_len, uint8_t *answer, size_t answer_len);
 
 /* Admits a cell: judges it as s57_judge does, and where that gives 0 writes its re-issue, which is the cell in its one held form, to the front of the

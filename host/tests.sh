@@ -16,8 +16,8 @@ copies=$(mktemp -d) || { fault 'no temporary folder'; close; }
 trap 'umount "$copies/disk" 2>/dev/null; rm -rf "$copies"' EXIT
 mkfifo "$copies/never"
 exec 9<>"$copies/never"
-# shellcheck source=testing.sh
-. host/testing.sh
+# shellcheck source=tests/shared.sh
+. host/tests/shared.sh
 
 # ---- judge
 
@@ -49,10 +49,10 @@ done
 
 # ---- unit
 
-# shellcheck source=tests_admit.sh
-. host/tests_admit.sh
-# shellcheck source=tests_offer.sh
-. host/tests_offer.sh
-# shellcheck source=tests_random.sh
-. host/tests_random.sh
+# shellcheck source=tests/admit.sh
+. host/tests/admit.sh
+# shellcheck source=tests/offer.sh
+. host/tests/offer.sh
+# shellcheck source=tests/random.sh
+. host/tests/random.sh
 close

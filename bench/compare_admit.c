@@ -1,9 +1,0 @@
-/* The host test of Admit: thousands of generated cells through the proved loader and through the C reader.
-   usage: compare_admit [SEEDS [FIRST_SEED]] */
-#include "../host/s57loader.h"
-#include "cases_admit.h"
-
-int main(int words, char **word)
-{
-    return run_admit_cases(s57_admit, s57_judge, words, word);
-}

@@ -1,9 +1,0 @@
-/* The host test of Judge: thousands of generated cells through the proved loader and through the C reader.
-   usage: compare_judge [SEEDS [FIRST_SEED]] */
-#include "../host/s57loader.h"
-#include "cases_judge.h"
-
-int main(int words, char **word)
-{
-    return run_judge_cases(s57_judge, words, word);
-}
