@@ -1,5 +1,5 @@
 -- The controls as they are read, and the list that each means: one law for each way through the code. Assumes nothing.
-use Prim.Native.Nat.{ℕ, zero, suc, _+_, _*_, _≤_, _<_}
+use Prim.Native.Nat.{ℕ, suc, _+_, _*_, _≤_, _<_}
 use mathlib.Core.Bool.{true, false, cond, _||_}
 use mathlib.Core.List.{List, [], _∷_}
 use mathlib.Core.Logic.{_⊎_, ⊎-elim}
@@ -10,7 +10,8 @@ use native.Mathlib.Omega.{arith}
 use lib.ListN.{length}
 use lib.Dec.{eqb}
 use borrow.Author.Tests.{eq-eqb, ne-eqb}
-use Rattle.octets.specs.Number.{byteAt, numAt, Reads}
+use Rattle.octets.specs.Number.{byteAt, numAt}
+use Rattle.octets.specs.Premises.{Reads}
 use Rattle.octets.specs.Area.{Has, Wrote}
 use Rattle.octets.proofs.AreaLaws.{wrote-has}
 use Rattle.table.specs.Table.{SG2D, SG3D}

@@ -15,18 +15,17 @@ use Rattle.table.specs.Table.{rowOf, table}
 use Rattle.attributes.specs.Attributes.{attribute, labelOf, isRemoval}
 use Rattle.layout.specs.Layout.{shapeOf}
 use Rattle.layout.proofs.KindLaws.{shape-sound}
-use Rattle.chart.specs.Value.{isAttributes}
+use Rattle.fieldvalue.specs.Value.{isAttributes}
 use Rattle.items.specs.Lists.{listAt, entriesAt}
 use Rattle.items.proofs.ListsLaws.{list-whole}
-use Rattle.objects.specs.Object.{objectAt, listOf}
-use Rattle.edits.specs.AttributeEdit.{apart}
-use Rattle.edits.specs.OnePass.{onePass, findable}
+use Rattle.items.specs.Item.{listOf, itemAt}
+use Rattle.edits.specs.OnePass.{apart, onePass, findable}
 use Rattle.edits.specs.Lists.{listAllowed, listEdited, listsEdited, allowedAt}
 use Rattle.edits.proofs.OnePassLaws.{one-pass, one-pass-finds}
 use Rattle.splice.specs.declared.control.Control.{Control}
 use Rattle.splice.specs.Given.{optionOf}
 use Rattle.splice.specs.Put.{Two, ListPut}
-use Rattle.splice.specs.Table.{Labelled, Blank}
+use Rattle.labelled.specs.Table.{Labelled, Blank}
 use Rattle.changes.specs.Change.{amendmentAt, editOf}
 use Rattle.amend.specs.declared.lists.Split.{Split}
 use Rattle.amend.specs.Sides.{Sides, listBytes, Picked, Areas, SideBySide, frontOf, backOf, mayPut, putOf, Ready}
@@ -91,12 +90,12 @@ module _ {cell : List ℕ} {at : ℕ} {update : List ℕ} {by : ℕ} (sides : Si
     brought-apart : apart labelOf (listOf update by k) ≡ true
     brought-apart = rw (list-entries update by k list) (sides .new-apart k is)
 
-    found-is : allowedAt (editOf (amendmentAt update by)) (objectAt cell at .lists) k ≡ findable labelOf isRemoval (listOf cell at k) (listOf update by k)
+    found-is : allowedAt (editOf (amendmentAt update by)) (itemAt cell at .lists) k ≡ findable labelOf isRemoval (listOf cell at k) (listOf update by k)
     unfolding allowedAt
     found-is = rw is (one-pass-finds labelOf isRemoval (listOf cell at k) (listOf update by k) brought-apart)
 
-    pub pass-is : allowedAt (editOf (amendmentAt update by)) (objectAt cell at .lists) k ≡ true
-        → listsEdited (editOf (amendmentAt update by)) (objectAt cell at .lists) k ≡ onePass labelOf isRemoval (listOf cell at k) (listOf update by k)
+    pub pass-is : allowedAt (editOf (amendmentAt update by)) (itemAt cell at .lists) k ≡ true
+        → listsEdited (editOf (amendmentAt update by)) (itemAt cell at .lists) k ≡ onePass labelOf isRemoval (listOf cell at k) (listOf update by k)
     unfolding listsEdited
     pass-is may = rw is (one-pass labelOf isRemoval (listOf cell at k) (listOf update by k) held-apart brought-apart (sym found-is ∙ may))
 
@@ -126,23 +125,23 @@ module _ {cell : List ℕ} {at : ℕ} {update : List ℕ} {by : ℕ} (sides : Si
     }
 
     control-allowed : isAttributes k ≡ false
-        → allowedAt (editOf (amendmentAt update by)) (objectAt cell at .lists) k ≡ listAllowed (optionOf c) (length (listOf cell at k)) (length (listOf update by k))
+        → allowedAt (editOf (amendmentAt update by)) (itemAt cell at .lists) k ≡ listAllowed (optionOf c) (length (listOf cell at k)) (length (listOf update by k))
     unfolding allowedAt
     control-allowed f = rw (f, pick .is)
 
     control-edited : isAttributes k ≡ false
-        → listsEdited (editOf (amendmentAt update by)) (objectAt cell at .lists) k ≡ listEdited (optionOf c) (listOf cell at k) (listOf update by k)
+        → listsEdited (editOf (amendmentAt update by)) (itemAt cell at .lists) k ≡ listEdited (optionOf c) (listOf cell at k) (listOf update by k)
     unfolding listsEdited
     control-edited f = rw (f, pick .is)
 
-    allowed-is : allowedAt (editOf (amendmentAt update by)) (objectAt cell at .lists) k ≡ mayPut k (optionOf c) (listOf cell at k) (listOf update by k)
+    allowed-is : allowedAt (editOf (amendmentAt update by)) (itemAt cell at .lists) k ≡ mayPut k (optionOf c) (listOf cell at k) (listOf update by k)
     unfolding mayPut
     allowed-is =
         ⊎-elim (λ (t : isAttributes k ≡ true). rw t (found-is k (pick .list) t)) (λ (f : isAttributes k ≡ false). rw f (control-allowed f))
         (true-or-false (isAttributes k))
 
-    edited-is : allowedAt (editOf (amendmentAt update by)) (objectAt cell at .lists) k ≡ true
-        → listsEdited (editOf (amendmentAt update by)) (objectAt cell at .lists) k ≡ putOf k (optionOf c) (listOf cell at k) (listOf update by k)
+    edited-is : allowedAt (editOf (amendmentAt update by)) (itemAt cell at .lists) k ≡ true
+        → listsEdited (editOf (amendmentAt update by)) (itemAt cell at .lists) k ≡ putOf k (optionOf c) (listOf cell at k) (listOf update by k)
     unfolding putOf
     edited-is may =
         ⊎-elim (λ (t : isAttributes k ≡ true). rw t (pass-is k (pick .list) t may)) (λ (f : isAttributes k ≡ false). rw f (control-edited f))
@@ -159,7 +158,7 @@ module _ {cell : List ℕ} {at : ℕ} {update : List ℕ} {by : ℕ} (sides : Si
       pub joined-put : {a d : List ℕ} {place r : ℕ}
           → ListPut (mayPut k (optionOf c) (entriesOf (shapeOf k) (frontOf join s)) (entriesOf (shapeOf k) (backOf join s)))
           (flatten (putOf k (optionOf c) (entriesOf (shapeOf k) (frontOf join s)) (entriesOf (shapeOf k) (backOf join s)))) a place d r
-          → ListPut (allowedAt (editOf (amendmentAt update by)) (objectAt cell at .lists) k) (listBytes cell at update by k) a place d r
+          → ListPut (allowedAt (editOf (amendmentAt update by)) (itemAt cell at .lists) k) (listBytes cell at update by k) a place d r
       unfolding entriesAt
       joined-put p =
           let first : entriesOf (shapeOf k) (frontOf join s) ≡ listOf cell at k = ap (entriesOf (shapeOf k)) (side .first) ∙ sym (list-entries cell at k (pick .list)) in

@@ -15,12 +15,13 @@ use Rattle.octets.proofs.Tests.{told-no, told-yes, and-no}
 use Rattle.entries.specs.Entries.{entriesOf}
 use Rattle.entries.specs.Rules.{allOf}
 use Rattle.entries.proofs.EntriesLaws.{entries-nil}
-use Rattle.table.specs.Table.{rowOf, table, SG2D, SG3D}
+use Rattle.table.specs.Table.{rowOf, table, SG2D, SG3D, ATTV, VRPT, ATTF, NATF, FFPT, FSPT}
 use Rattle.layout.specs.Layout.{shapeOf}
 use Rattle.items.specs.Identity.{rcnmAt}
-use Rattle.items.specs.Lists.{LaidOut, listAt, entriesAt}
-use Rattle.objects.specs.Object.{listOf, isFeature}
-use Rattle.objects.proofs.BytesLaws.{list-bytes}
+use Rattle.items.specs.Premises.{LaidOut}
+use Rattle.items.specs.Lists.{listAt, entriesAt}
+use Rattle.items.specs.Item.{listOf, isFeature}
+use Rattle.itemfields.proofs.BytesLaws.{list-bytes}
 use Rattle.edits.specs.Lists.{Edit, isNone, coordinates, controlOf, allowedAt, listsAllowed}
 use Rattle.splice.specs.declared.control.Control.{Control}
 use Rattle.splice.specs.Given.{optionOf, Given}
@@ -42,21 +43,21 @@ four P a b c d (suc (suc zero)) h = c
 four P a b c d (suc (suc (suc zero))) h = d
 four P a b c d (suc (suc (suc (suc i)))) h = absurd (omega arith)
 
-pub kinds-feature : (rcnm : ℕ) → rcnm ≡ 100 → 12 ∷ 13 ∷ 15 ∷ 17 ∷ [] ≡ kindsOf rcnm
+pub kinds-feature : (rcnm : ℕ) → rcnm ≡ 100 → ATTF ∷ NATF ∷ FFPT ∷ FSPT ∷ [] ≡ kindsOf rcnm
 unfolding kindsOf isFeature
 kinds-feature rcnm e = rw e
 
-pub kinds-vector : (rcnm : ℕ) → (rcnm ≡ 100 → ⊥) → 4 ∷ 6 ∷ 8 ∷ 9 ∷ [] ≡ kindsOf rcnm
+pub kinds-vector : (rcnm : ℕ) → (rcnm ≡ 100 → ⊥) → ATTV ∷ VRPT ∷ SG2D ∷ SG3D ∷ [] ≡ kindsOf rcnm
 unfolding kindsOf isFeature
 kinds-vector rcnm ne = rw (ne-eqb rcnm 100 ne)
 
-pub feature-four : FourLists (12 ∷ 13 ∷ 15 ∷ 17 ∷ [])
+pub feature-four : FourLists (ATTF ∷ NATF ∷ FFPT ∷ FSPT ∷ [])
 unfolding rowOf table
-feature-four = record { four = refl; each = four (λ i. rowOf (getD (12 ∷ 13 ∷ 15 ∷ 17 ∷ []) i 0) .list ≡ true) refl refl refl refl }
+feature-four = record { four = refl; each = four (λ i. rowOf (getD (ATTF ∷ NATF ∷ FFPT ∷ FSPT ∷ []) i 0) .list ≡ true) refl refl refl refl }
 
-pub vector-four : FourLists (4 ∷ 6 ∷ 8 ∷ 9 ∷ [])
+pub vector-four : FourLists (ATTV ∷ VRPT ∷ SG2D ∷ SG3D ∷ [])
 unfolding rowOf table
-vector-four = record { four = refl; each = four (λ i. rowOf (getD (4 ∷ 6 ∷ 8 ∷ 9 ∷ []) i 0) .list ≡ true) refl refl refl refl }
+vector-four = record { four = refl; each = four (λ i. rowOf (getD (ATTV ∷ VRPT ∷ SG2D ∷ SG3D ∷ []) i 0) .list ≡ true) refl refl refl refl }
 
 -- ---- the controls, by the class as it was read
 module _ (update : List ℕ) (by rcnm : ℕ) (c : Control) (read : rcnm ≡ rcnmAt update by) where

@@ -5,7 +5,8 @@ use mathlib.Core.List.{List}
 use mathlib.Core.Path.{_≡_}
 use lib.ListN.{length, getD}
 use Rattle.table.specs.Table.{rowOf, VRPC, SGCC, FFPC, FSPC}
-use Rattle.items.specs.Identity.{rcnmAt, Identified}
+use Rattle.items.specs.Premises.{Identified}
+use Rattle.items.specs.Identity.{rcnmAt}
 use Rattle.splice.specs.declared.control.Control.{Control}
 use Rattle.splice.specs.Given.{optionOf, Given}
 use Rattle.changes.specs.Change.{amendmentAt}

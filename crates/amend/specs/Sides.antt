@@ -9,18 +9,18 @@ use lib.ListN.{length, getD, take, drop}
 use Rattle.table.specs.Table.{rowOf}
 use Rattle.attributes.specs.Attributes.{labelOf, isRemoval}
 use Rattle.layout.specs.Layout.{shapeOf}
-use Rattle.chart.specs.Value.{isAttributes}
-use Rattle.items.specs.Lists.{LaidOut, listAt, entriesAt}
-use Rattle.objects.specs.Object.{objectAt}
+use Rattle.fieldvalue.specs.Value.{isAttributes}
+use Rattle.items.specs.Premises.{LaidOut}
+use Rattle.items.specs.Lists.{listAt, entriesAt}
+use Rattle.items.specs.Item.{itemAt}
 use Rattle.edits.specs.Control as edits
-use Rattle.edits.specs.AttributeEdit.{apart}
-use Rattle.edits.specs.OnePass.{onePass, findable}
+use Rattle.edits.specs.OnePass.{apart, onePass, findable}
 use Rattle.edits.specs.Lists.{listAllowed, listEdited, controlOf, listsEdited}
 use Rattle.splice.specs.declared.control.Control.{Control}
 use Rattle.amend.specs.declared.lists.Split.{Split}
 use Rattle.splice.specs.Given.{optionOf, Given}
 use Rattle.splice.specs.Put.{Two}
-use Rattle.splice.specs.Table.{Labelled, Blank}
+use Rattle.labelled.specs.Table.{Labelled, Blank}
 use Rattle.changes.specs.Change.{amendmentAt, editOf}
 
 -- both records are laid out, no attribute comes twice in a list of either, and no list is longer than a record
@@ -34,13 +34,13 @@ pub record Sides (cell : List ℕ) (at : ℕ) (update : List ℕ) (by : ℕ) : T
 
 -- the bytes of list k of the result
 abbrev pub listBytes : List ℕ → ℕ → List ℕ → ℕ → ℕ → List ℕ
-listBytes cell at update by k = flatten (listsEdited (editOf (amendmentAt update by)) (objectAt cell at .lists) k)
+listBytes cell at update by k = flatten (listsEdited (editOf (amendmentAt update by)) (itemAt cell at .lists) k)
 
 -- k is a list, and c its control
 pub record Picked (cell : List ℕ) (at : ℕ) (update : List ℕ) (by k : ℕ) (c : Control) : Type 0 where
   pub list : rowOf k .list ≡ true
   pub small : Given c
-  pub is : optionOf c ≡ controlOf (editOf (amendmentAt update by)) (objectAt cell at .lists) k
+  pub is : optionOf c ≡ controlOf (editOf (amendmentAt update by)) (itemAt cell at .lists) k
 
 -- the area where two lists stand side by side, and the table of labels, which is zero
 pub record Areas (join : List ℕ) (table : List ℕ) : Type 0 where

@@ -3,19 +3,22 @@ ghost use Prim.Native.Nat.{_≤_};
 ghost use mathlib.Core.Bool.{false};
 ghost use mathlib.Core.Path.{_≡_};
 ghost use lib.ListN.{length};
-ghost use Rattle.iso8211.specs.Field.{HeadOf};
+ghost use Rattle.iso8211.specs.Premises.{HeadOf};
 ghost use Rattle.items.specs.Identity.{rcnmAt};
-ghost use Rattle.items.specs.Lists.{LaidOut};
 ghost use Rattle.splice.specs.Given.{optionOf, Given};
 ghost use Rattle.changes.specs.Change.{controlAt, amendmentAt};
 ghost use Rattle.amend.specs.Controls.{ControlSize, coordinatesBy, chosen};
 ghost use Rattle.amend.specs.Pairs.{BothRead};
 use iso8211::field::Head;
+use joining::lists::put_list;
+use joining::lists::total;
 use octets::number::get1;
 use octets::number::get2;
 use splice::control::Control;
-use writing::lists::put_list;
-use writing::lists::total;
+use table::kinds;
+use table::offsets;
+ghost use Rattle.items.specs.Premises.{LaidOut};
+ghost use Rattle.table.specs.Table.{VRPC, SGCC, FFPC, FSPC};
 
 // No control.
 pub fn no_control() -> Control
@@ -42,33 +45,33 @@ pub fn control_of(s: &[u8], at: usize, h: Head, k: usize, join: &mut [u8]) -> Co
     Control {
         there: true,
         instruction: get1(join, 0),
-        index: get2(join, 1) as usize,
-        count: get2(join, 3) as usize,
+        index: get2(join, offsets::CONTROL_INDEX) as usize,
+        count: get2(join, offsets::CONTROL_COUNT) as usize,
     }
 }
 
 // The control of VRPT or FFPT of the update's record at `by`, which is of class `rcnm`.
 fn first_of(update: &[u8], by: usize, h: Head, rcnm: u32, join: &mut [u8]) -> Control
-    requires { ⌜ LaidOut (now update) by × HeadOf (now update) by h × (rcnm ≡ rcnmAt (now update) by) × ControlSize (now update) by 14 × ControlSize (now update) by 5
+    requires { ⌜ LaidOut (now update) by × HeadOf (now update) by h × (rcnm ≡ rcnmAt (now update) by) × ControlSize (now update) by FFPC × ControlSize (now update) by VRPC
         × (5 ≤ length (now join)) ⌝ }
     ensures { λ r. ⌜ (optionOf r ≡ amendmentAt (now (update .entry)) by .first) × Given r ⌝ }
 {
     if rcnm == 100 {
-        return control_of(update, by, h, 14, join);
+        return control_of(update, by, h, kinds::FFPC, join);
     }
-    control_of(update, by, h, 5, join)
+    control_of(update, by, h, kinds::VRPC, join)
 }
 
 // That of the coordinates or of FSPT.
 fn second_of(update: &[u8], by: usize, h: Head, rcnm: u32, join: &mut [u8]) -> Control
-    requires { ⌜ LaidOut (now update) by × HeadOf (now update) by h × (rcnm ≡ rcnmAt (now update) by) × ControlSize (now update) by 16 × ControlSize (now update) by 7
+    requires { ⌜ LaidOut (now update) by × HeadOf (now update) by h × (rcnm ≡ rcnmAt (now update) by) × ControlSize (now update) by FSPC × ControlSize (now update) by SGCC
         × (5 ≤ length (now join)) ⌝ }
     ensures { λ r. ⌜ (optionOf r ≡ amendmentAt (now (update .entry)) by .second) × Given r ⌝ }
 {
     if rcnm == 100 {
-        return control_of(update, by, h, 16, join);
+        return control_of(update, by, h, kinds::FSPC, join);
     }
-    control_of(update, by, h, 7, join)
+    control_of(update, by, h, kinds::SGCC, join)
 }
 
 // The two controls that the update's record at `by` may have.
@@ -78,8 +81,8 @@ pub struct Controls {
 }
 
 pub fn controls_of(update: &[u8], by: usize, h: Head, rcnm: u32, join: &mut [u8]) -> Controls
-    requires { ⌜ LaidOut (now update) by × HeadOf (now update) by h × (rcnm ≡ rcnmAt (now update) by) × ControlSize (now update) by 5 × ControlSize (now update) by 7
-        × ControlSize (now update) by 14 × ControlSize (now update) by 16 × (5 ≤ length (now join)) ⌝ }
+    requires { ⌜ LaidOut (now update) by × HeadOf (now update) by h × (rcnm ≡ rcnmAt (now update) by) × ControlSize (now update) by VRPC × ControlSize (now update) by SGCC
+        × ControlSize (now update) by FFPC × ControlSize (now update) by FSPC × (5 ≤ length (now join)) ⌝ }
     ensures { λ r. ⌜ BothRead (now (update .entry)) by r ⌝ }
 {
     let first = first_of(update, by, h, rcnm, join);
@@ -92,16 +95,16 @@ pub fn coordinates_of(cell: &[u8], at: usize, hc: Head, update: &[u8], by: usize
     requires { ⌜ LaidOut (now cell) at × HeadOf (now cell) at hc × LaidOut (now update) by × HeadOf (now update) by hu ⌝ }
     ensures { λ r. ⌜ r ≡ coordinatesBy (now (cell .entry)) at (now (update .entry)) by ⌝ }
 {
-    if total(cell, at, hc, 8) != 0 {
-        return 8;
+    if total(cell, at, hc, kinds::SG2D) != 0 {
+        return kinds::SG2D;
     }
-    if total(cell, at, hc, 9) != 0 {
-        return 9;
+    if total(cell, at, hc, kinds::SG3D) != 0 {
+        return kinds::SG3D;
     }
-    if total(update, by, hu, 9) == 0 {
-        return 8;
+    if total(update, by, hu, kinds::SG3D) == 0 {
+        return kinds::SG2D;
     }
-    9
+    kinds::SG3D
 }
 
 // The control of list k, of the two that a record may have.
@@ -109,13 +112,13 @@ pub fn control_for(k: usize, first: Control, second: Control, coordinates: usize
     requires { ⌜ Given first × Given second ⌝ }
     ensures { λ r. ⌜ (optionOf r ≡ chosen k (optionOf first) (optionOf second) coordinates) × Given r ⌝ }
 {
-    if k == 6 {
+    if k == kinds::VRPT {
         return first;
     }
-    if k == 15 {
+    if k == kinds::FFPT {
         return first;
     }
-    if k == 17 {
+    if k == kinds::FSPT {
         return second;
     }
     if k == coordinates {

@@ -5,17 +5,17 @@ ghost use mathlib.Core.Bool.{true};
 ghost use mathlib.Core.List.{flatten};
 ghost use mathlib.Core.Path.{_≡_};
 ghost use lib.ListN.{length};
-ghost use Rattle.iso8211.specs.Field.{HeadOf};
-ghost use Rattle.chart.specs.Value.{isAttributes};
+ghost use Rattle.iso8211.specs.Premises.{HeadOf};
+ghost use Rattle.fieldvalue.specs.Value.{isAttributes};
 ghost use Rattle.table.specs.Table.{rowOf};
 ghost use Rattle.entries.specs.Entries.{entriesOf};
 ghost use Rattle.layout.specs.Layout.{shapeOf};
-ghost use Rattle.items.specs.Lists.{LaidOut, listAt};
-ghost use Rattle.objects.specs.Object.{objectAt};
+ghost use Rattle.items.specs.Lists.{listAt};
+ghost use Rattle.items.specs.Item.{itemAt};
 ghost use Rattle.edits.specs.Lists.{allowedAt};
 ghost use Rattle.splice.specs.Given.{optionOf};
 ghost use Rattle.splice.specs.Put.{ListPut};
-ghost use Rattle.splice.specs.Table.{Blank};
+ghost use Rattle.labelled.specs.Table.{Blank};
 ghost use Rattle.changes.specs.Change.{amendmentAt, editOf};
 ghost use Rattle.amend.specs.Sides.{Sides, listBytes, Picked, Areas, SideBySide, frontOf, backOf, mayPut, putOf, Ready};
 ghost use Rattle.amend.specs.Pairs.{PlanFor};
@@ -23,22 +23,24 @@ use crate::control::control_for;
 use crate::plan::Plan;
 use iso8211::field::Head;
 use items::shape::shape_of;
+use joining::lists::put_list;
+use labelled::labels::put_attributes;
 use splice::control::Control;
-use splice::labels::put_attributes;
 use splice::list::put_spliced;
-use writing::lists::put_list;
+use table::kinds;
+ghost use Rattle.items.specs.Premises.{LaidOut};
 
 // Whether a list of kind k is one of attributes.
 fn is_attributes(k: usize) -> bool
     ensures { λ r. ⌜ r ≡ isAttributes k ⌝ }
 {
-    if k == 4 {
+    if k == kinds::ATTV {
         return true;
     }
-    if k == 12 {
+    if k == kinds::ATTF {
         return true;
     }
-    k == 13
+    k == kinds::NATF
 }
 
 // Where the cell's bytes of a list end and where the update's do, which stand behind them.
@@ -112,7 +114,7 @@ fn put_edited(
 ) -> usize
     requires { ⌜ Sides (now cell) at (now update) by × HeadOf (now cell) at hc × HeadOf (now update) by hu × Picked (now cell) at (now update) by k c
         × Areas (now join) (now table) × (place + (length (listAt (now cell) at k) + length (listAt (now update) by k)) ≤ length (now room)) ⌝ }
-    ensures { λ r. ⌜ ListPut (allowedAt (editOf (amendmentAt (now (update .entry)) by)) (objectAt (now (cell .entry)) at .lists) k)
+    ensures { λ r. ⌜ ListPut (allowedAt (editOf (amendmentAt (now (update .entry)) by)) (itemAt (now (cell .entry)) at .lists) k)
         (listBytes (now (cell .entry)) at (now (update .entry)) by k) (now (room .entry)) place (now (room .exit)) r
         × Areas (now (join .exit)) (now (table .exit)) ⌝ }
 {
@@ -138,7 +140,7 @@ pub fn put_kind(
     requires { ⌜ Sides (now cell) at (now update) by × HeadOf (now cell) at hc × HeadOf (now update) by hu × PlanFor (now cell) at (now update) by plan
         × (rowOf k .list ≡ true) × Areas (now join) (now table)
         × (place + (length (listAt (now cell) at k) + length (listAt (now update) by k)) ≤ length (now room)) ⌝ }
-    ensures { λ r. ⌜ ListPut (allowedAt (editOf (amendmentAt (now (update .entry)) by)) (objectAt (now (cell .entry)) at .lists) k)
+    ensures { λ r. ⌜ ListPut (allowedAt (editOf (amendmentAt (now (update .entry)) by)) (itemAt (now (cell .entry)) at .lists) k)
         (listBytes (now (cell .entry)) at (now (update .entry)) by k) (now (room .entry)) place (now (room .exit)) r
         × Areas (now (join .exit)) (now (table .exit)) ⌝ }
 {

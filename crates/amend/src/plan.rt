@@ -2,7 +2,7 @@
 ghost use Prim.Native.Nat.{_≤_};
 ghost use mathlib.Core.Path.{_≡_};
 ghost use lib.ListN.{length};
-ghost use Rattle.iso8211.specs.Field.{HeadOf};
+ghost use Rattle.iso8211.specs.Premises.{HeadOf};
 ghost use Rattle.changes.specs.Amend.{kindsOf};
 ghost use Rattle.amend.specs.Pairs.{Paired, FourLists, PlanFor};
 use crate::control::controls_of;
@@ -10,6 +10,7 @@ use crate::control::coordinates_of;
 use iso8211::field::Head;
 use items::identity::rcnm_of;
 use splice::control::Control;
+use table::kinds;
 
 // The kinds of the four lists of a vector or of a feature; the controls of the update's record; the
 // kind that SGCC means.
@@ -25,9 +26,9 @@ fn kinds_of(rcnm: u32) -> [usize; 4]
     ensures { λ r. ⌜ (r ≡ kindsOf rcnm) × FourLists r ⌝ }
 {
     if rcnm == 100 {
-        return [12, 13, 15, 17];
+        return [kinds::ATTF, kinds::NATF, kinds::FFPT, kinds::FSPT];
     }
-    [4, 6, 8, 9]
+    [kinds::ATTV, kinds::VRPT, kinds::SG2D, kinds::SG3D]
 }
 
 pub fn plan_of(

@@ -18,28 +18,28 @@ use Rattle.table.specs.Table.{table, rowOf, ATTV, ATTF, NATF, VRPC, SGCC, FFPC,
 use Rattle.words.specs.Order.{sorted}
 use Rattle.words.proofs.OrderLaws.{member-at, sorted-in-order}
 use Rattle.attributes.specs.Attributes.{labelOf}
-use Rattle.chart.specs.Value.{isAttributes, isHigh}
-use Rattle.chart.specs.Read.{aallAt, nallAt}
-use Rattle.items.specs.Lists.{LaidOut, listAt, entriesAt}
-use Rattle.items.specs.Identity.{rcnmAt, rcidAt, rankOf, nameFrom, nameAt, nameOf, placeOf, wordFor, Identified}
-use Rattle.items.specs.Item.{itemName}
-use Rattle.items.proofs.IdentityLaws.{name-rank, word-place}
+use Rattle.fieldvalue.specs.Value.{isAttributes, isHigh}
+use Rattle.items.specs.Premises.{LaidOut, Identified}
+use Rattle.items.specs.Lists.{listAt, entriesAt}
+use Rattle.items.specs.Identity.{rcnmAt, rcidAt, rankOf, nameFrom, nameAt, wordFor}
+use Rattle.items.specs.Word.{nameOf, wordOffset}
+use Rattle.items.specs.Item.{listOf, Item, itemAt}
+use Rattle.items.proofs.IdentityLaws.{name-rank, word-offset}
 use Rattle.items.proofs.ListsLaws.{list-short}
 use Rattle.items.proofs.KindLaws.{attv-list, attf-list, natf-list}
-use Rattle.names.specs.Names.{firstItem, nameWords, Readable}
-use Rattle.names.specs.Held.{Stands}
+use Rattle.names.specs.NameWords.{nameWords}
+use Rattle.names.specs.Premises.{Readable, Stands}
+use Rattle.names.specs.Names.{firstItem, itemsFrom}
 use Rattle.names.proofs.ReadableLaws.{place-small}
 use Rattle.names.proofs.NamedLaws.{word-record}
 use Rattle.names.proofs.HeldLaws.{all-stand, stand-name, rcid-small}
-use Rattle.objects.specs.Object.{Object, listOf, objectAt}
-use Rattle.objects.specs.Views.{listGood}
-use Rattle.held.specs.Chart.{objectsFrom}
+use Rattle.itemfields.specs.Views.{listGood}
 use Rattle.held.specs.Good.{Good}
 use Rattle.held.specs.Good.Good.{a-vector, a-feature}
 use Rattle.held.proofs.OrderLaws.{Apart}
 use Rattle.held.proofs.OrderLaws.Apart.{apart-more}
 use Rattle.held.proofs.CellLaws.{CellTold}
-use Rattle.edits.specs.AttributeEdit.{apart}
+use Rattle.edits.specs.OnePass.{apart}
 use Rattle.edits.proofs.GoodLaws.{good-apart}
 use Rattle.changes.specs.Good.{ObjectBrought}
 use Rattle.changes.specs.Good.ObjectBrought.{brought-vector, brought-feature}
@@ -47,6 +47,7 @@ use Rattle.changes.specs.Told.{Controlled, UpdateTold}
 use Rattle.amend.specs.Controls.{ControlSize}
 use Rattle.amend.specs.Pairs.{Paired}
 use Rattle.amendments.specs.Amendable.{AllAmendable}
+use Rattle.layout.specs.General.{aallAt, nallAt}
 
 -- ---- no label twice in a list of attributes
 attributes-list : (k : ℕ) → isAttributes k ≡ true → rowOf k .list ≡ true
@@ -63,26 +64,26 @@ labels-apart : (update : Bool) (aall nall : ℕ) (s : List ℕ) (at k : ℕ) →
 unfolding listGood listOf
 labels-apart update aall nall s at k good is = good-apart update (isHigh aall nall k) [] (entriesAt s at k) (rw (is, attributes-list k is) at good)
 
-cell-apart : {aall nall : ℕ} (s : List ℕ) (at : ℕ) → Good aall nall (objectAt s at) → (k : ℕ)
+cell-apart : {aall nall : ℕ} (s : List ℕ) (at : ℕ) → Good aall nall (itemAt s at) → (k : ℕ)
     → isAttributes k ≡ true → apart labelOf (entriesAt s at k) ≡ true
 cell-apart {aall} {nall} s at (a-vector v) k is = labels-apart false aall nall s at k (v .lists .good k) is
 cell-apart {aall} {nall} s at (a-feature f) k is = labels-apart false aall nall s at k (f .lists .good k) is
 
-update-apart : {aall nall : ℕ} (s : List ℕ) (at : ℕ) → ObjectBrought aall nall (objectAt s at) → (k : ℕ)
+update-apart : {aall nall : ℕ} (s : List ℕ) (at : ℕ) → ObjectBrought aall nall (itemAt s at) → (k : ℕ)
     → isAttributes k ≡ true → apart labelOf (entriesAt s at k) ≡ true
 update-apart {aall} {nall} s at (brought-vector v) k is = labels-apart true aall nall s at k (v .lists .good k) is
 update-apart {aall} {nall} s at (brought-feature f) k is = labels-apart true aall nall s at k (f .lists .good k) is
 
 -- ---- each object of a cell is good
-first-good : {aall nall : ℕ} {t : Object} {ts : List Object} → Apart aall nall (t ∷ ts) → Good aall nall t
+first-good : {aall nall : ℕ} {t : Item} {ts : List Item} → Apart aall nall (t ∷ ts) → Good aall nall t
 first-good (apart-more good fresh rest) = good
 
-rest-good : {aall nall : ℕ} {t : Object} {ts : List Object} → Apart aall nall (t ∷ ts) → Apart aall nall ts
+rest-good : {aall nall : ℕ} {t : Item} {ts : List Item} → Apart aall nall (t ∷ ts) → Apart aall nall ts
 rest-good (apart-more good fresh rest) = rest
 
-pub object-good : (aall nall : ℕ) (s : List ℕ) (m k : ℕ) → Apart aall nall (objectsFrom m s (recordAt s k))
-    → (j : ℕ) → k ≤ j → j < k + m → Good aall nall (objectAt s (recordAt s j))
-unfolding objectsFrom
+pub object-good : (aall nall : ℕ) (s : List ℕ) (m k : ℕ) → Apart aall nall (itemsFrom m s (recordAt s k))
+    → (j : ℕ) → k ≤ j → j < k + m → Good aall nall (itemAt s (recordAt s j))
+unfolding itemsFrom
 object-good aall nall s zero k all j low high = absurd (omega arith)
 object-good aall nall s (suc m) k all j low high =
     ⊎-elim (λ (here : k ≡ j). rw (← here) (first-good all))
@@ -111,8 +112,8 @@ name-class a p b q known-a known-b small-a small-b same =
     let rank : rankOf (rcnmAt a p) ≡ rankOf (rcnmAt b q) = sym ra ∙ ap (λ (x : ℕ). x / 4294967296) same ∙ rb in
     class-back (rcnmAt a p) (known-a .class) ∙ ap classOf rank ∙ sym (class-back (rcnmAt b q) (known-b .class))
 
-pub stand-named : {s : List ℕ} {w : ℕ} → Stands s w → nameOf w ≡ nameAt s (placeOf w)
-unfolding nameAt itemName
+pub stand-named : {s : List ℕ} {w : ℕ} → Stands s w → nameOf w ≡ nameAt s (wordOffset w)
+unfolding nameAt
 stand-named stands = stand-name stands
 
 -- ---- no list is longer than a record
@@ -160,12 +161,12 @@ module _ {s : List ℕ} {at : ℕ} (known : Controlled s at) where
 -- ---- the two files
 module _ {cell : List ℕ} {n : ℕ} {update : List ℕ} {m : ℕ} (readable : Readable false cell n) (told : CellTold cell n) (small : (i : ℕ) → byteAt cell i < 256)
     (framed : frameOf update ≡ Records m) (given : UpdateTold update m) (small-too : (i : ℕ) → byteAt update i < 256) where
-  word-place-at : (w k : ℕ) → k < n → wordFor cell (recordAt cell k) ≡ w → placeOf w ≡ recordAt cell k
-  word-place-at w k less e = ap (λ (v : ℕ). placeOf v) (sym e) ∙ word-place cell (recordAt cell k) (place-small readable k less)
+  word-place-at : (w k : ℕ) → k < n → wordFor cell (recordAt cell k) ≡ w → wordOffset w ≡ recordAt cell k
+  word-place-at w k less e = ap (λ (v : ℕ). wordOffset v) (sym e) ∙ word-offset cell (recordAt cell k) (place-small readable k less)
 
   pub pair : (p : ℕ) → p < length (sorted (nameWords false cell n)) → (k : ℕ) → 2 ≤ k → k < m
       → nameOf (getD (sorted (nameWords false cell n)) p 0) ≡ nameAt update (recordAt update k)
-      → Paired cell (placeOf (getD (sorted (nameWords false cell n)) p 0)) update (recordAt update k)
+      → Paired cell (wordOffset (getD (sorted (nameWords false cell n)) p 0)) update (recordAt update k)
   unfolding firstItem
   pair p less k low high same =
       let ws = sorted (nameWords false cell n) in
@@ -178,18 +179,18 @@ module _ {cell : List ℕ} {n : ℕ} {update : List ℕ} {m : ℕ} (readable : R
       let aall = aallAt cell (recordAt cell 1) in
       let nall = nallAt cell (recordAt cell 1) in
       let below : r .0 < 3 + (n - 3) = let b = r .2 in let t = told .three in omega arith in
-      let good : Good aall nall (objectAt cell (placeOf w)) = rw place (object-good aall nall cell (n - 3) 3 (told .apart) (r .0) (r .1) below) in
+      let good : Good aall nall (itemAt cell (wordOffset w)) = rw place (object-good aall nall cell (n - 3) 3 (told .apart) (r .0) (r .1) below) in
       record {
         sides = record {
           old = stands .laid;
           new = new .laid;
-          old-apart = cell-apart cell (placeOf w) good;
+          old-apart = cell-apart cell (wordOffset w) good;
           new-apart = update-apart update by (new .good .body);
-          old-few = list-few cell n (r .0) (placeOf w) (readable .framed) (r .2) place (stands .laid);
+          old-few = list-few cell n (r .0) (wordOffset w) (readable .framed) (r .2) place (stands .laid);
           new-few = list-few update m k by framed high refl (new .laid);
         };
         known = stands .known;
-        same = sym (name-class cell (placeOf w) update by (stands .known) (new .known) small small-too (sym (stand-named stands) ∙ same));
+        same = sym (name-class cell (wordOffset w) update by (stands .known) (new .known) small small-too (sym (stand-named stands) ∙ same));
         vrpc = vrpc-size (new .controls);
         sgcc = sgcc-size (new .controls);
         ffpc = ffpc-size (new .controls);

@@ -9,7 +9,7 @@ use lib.Dec.{eqb}
 use borrow.Author.Tests.{eq-eqb, ne-eqb}
 use Rattle.octets.proofs.Tests.{told-no, told-yes}
 use Rattle.items.specs.Identity.{rcnmAt, ruinAt, versionAt}
-use Rattle.objects.specs.Object.{Object}
+use Rattle.items.specs.Item.{Item}
 use Rattle.edits.specs.InsertDelete.{insertAllowed, deleteAllowed}
 use Rattle.edits.specs.Lists.{listsAllowed}
 use Rattle.changes.specs.Change.{amendmentAt, editOf}
@@ -43,7 +43,7 @@ module _ (s : List ℕ) (at r : ℕ) (ruin : r ≡ ruinAt s at) where
       missing-fine t = rw (is-so r (ruinAt s at) 1 ruin inserts, is-so v (versionAt s at) 1 version new, told-yes q _ told t)
 
 -- ---- of a name that is: r is RUIN, v RVER, w the held RVER, t what is held
-module _ (s : List ℕ) (at r : ℕ) (ruin : r ≡ ruinAt s at) (t : Object) where
+module _ (s : List ℕ) (at r : ℕ) (ruin : r ≡ ruinAt s at) (t : Item) where
   pub held-target : r ≡ 1 → 13 ≡ foundCode (amendmentAt s at) (some t)
   unfolding foundCode
   held-target e = rw (is-so r (ruinAt s at) 1 ruin e)
@@ -73,7 +73,7 @@ module _ (s : List ℕ) (at r : ℕ) (ruin : r ≡ ruinAt s at) (t : Object) whe
         held-fine n = rw (is-not r (ruinAt s at) 1 ruin other, follows, told-yes q _ told same, told-yes p _ edit n)
 
 -- ---- the edit of a delete, and that of a modify
-module _ (s : List ℕ) (at r : ℕ) (ruin : r ≡ ruinAt s at) (t : Object) (p : Bool) where
+module _ (s : List ℕ) (at r : ℕ) (ruin : r ≡ ruinAt s at) (t : Item) (p : Bool) where
   pub edit-delete : r ≡ 2 → rcnmAt s at ≡ t .rcnm → p ≡ deleteAllowed (kindsOf (rcnmAt s at)) (editOf (amendmentAt s at)) → p ≡ editAllowed (amendmentAt s at) t
   unfolding editAllowed
   edit-delete e class told = rw (is-so r (ruinAt s at) 2 ruin e, ← class) told

@@ -6,39 +6,40 @@ use mathlib.Core.Path.{_≡_, _∙_}
 use native.Mathlib.Omega.{arith}
 use lib.Dec.{eqb}
 use borrow.Author.Tests.{ne-eqb}
+use Rattle.answers.specs.First.{firstBy}
 use Rattle.iso8211.specs.Record.{endOf}
-use Rattle.iso8211.specs.Field.{FramedAt}
+use Rattle.iso8211.specs.Premises.{FramedAt}
 use Rattle.iso8211.specs.File.{recordAt}
 use Rattle.iso8211.proofs.Promise.{framed-at, at-next}
-use Rattle.chart.specs.Read.{refusal, fine}
-use Rattle.chart.specs.declared.read.Refusal.{Refusal}
-use Rattle.objects.specs.Object.{Object}
+use Rattle.answers.specs.Answer.{refusal, fine}
+use Rattle.answers.specs.declared.refusal.Refusal.{Refusal}
+use Rattle.items.specs.Item.{Item}
 use Rattle.changes.specs.Change.{amendmentAt, amendmentsFrom, changeOf}
 use Rattle.changes.specs.Amend.{amendmentCode, amendmentsFault, placedIn}
 use Rattle.amendments.specs.Amendable.{Amendable, AllAmendable}
 
 -- the answer from record k, at `at`, on is the answer from the start
-pub record Judging (held : List Object) (update : List ℕ) (m k at : ℕ) : Type 0 where
+pub record Judging (held : List Item) (update : List ℕ) (m k at : ℕ) : Type 0 where
   pub low : 2 ≤ k
   pub place : at ≡ recordAt update k
   pub so : amendmentsFault held 2 (changeOf update m .amendments) ≡ amendmentsFault held k (amendmentsFrom (m - k) update at)
 
-pub judging-start : (held : List Object) (update : List ℕ) (m at : ℕ) → at ≡ recordAt update 2 → Judging held update m 2 at
+pub judging-start : (held : List Item) (update : List ℕ) (m at : ℕ) → at ≡ recordAt update 2 → Judging held update m 2 at
 unfolding changeOf
 judging-start held update m at e = record { low = omega arith; place = e; so = rw e }
 
-from-more : (held : List Object) (update : List ℕ) (k at n i : ℕ) → n ≡ suc i
+from-more : (held : List Item) (update : List ℕ) (k at n i : ℕ) → n ≡ suc i
     → amendmentsFault held k (amendmentsFrom n update at)
     ≡ cond (eqb (amendmentCode held (amendmentAt update at)) 0) (amendmentsFault held (k + 1) (amendmentsFrom i update (endOf update at)))
     (refusal (amendmentCode held (amendmentAt update at)) k 0)
-unfolding amendmentsFault amendmentsFrom
+unfolding amendmentsFault amendmentsFrom firstBy
 from-more held update k at n i e = rw e
 
-from-none : (held : List Object) (update : List ℕ) (k at n : ℕ) → n ≡ 0 → amendmentsFault held k (amendmentsFrom n update at) ≡ fine
-unfolding amendmentsFault amendmentsFrom
+from-none : (held : List Item) (update : List ℕ) (k at n : ℕ) → n ≡ 0 → amendmentsFault held k (amendmentsFrom n update at) ≡ fine
+unfolding amendmentsFault amendmentsFrom firstBy
 from-none held update k at n e = rw e
 
-module _ (held : List Object) (update : List ℕ) (m k at : ℕ) (j : Judging held update m k at) where
+module _ (held : List Item) (update : List ℕ) (m k at : ℕ) (j : Judging held update m k at) where
   pub judging-end : (r : Refusal) → m ≤ k → r ≡ refusal 0 0 0 → r ≡ placedIn update (amendmentsFault held 2 (changeOf update m .amendments))
   unfolding placedIn
   judging-end r h e = e ∙ rw (j .so, from-none held update k at (m - k) (omega arith))

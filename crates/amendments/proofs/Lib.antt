@@ -1,6 +1,4 @@
 -- Laws of `amendments`.
-pub mod BroughtLaws
-pub mod IdentityLaws
 pub mod CodeLaws
 pub mod LookupLaws
 pub mod FaultLaws

@@ -7,29 +7,27 @@ use mathlib.Core.Option.{Option, none, some}
 use mathlib.Core.Path.{_≡_, refl, sym, ap, _∙_}
 use lib.Dec.{eqb}
 use Rattle.octets.proofs.Cases.{true-or-false}
-use Rattle.items.specs.Identity.{nameAt, nameOf, placeOf}
-use Rattle.items.specs.Item.{itemName}
-use Rattle.names.specs.Held.{Stands, AllStand}
-use Rattle.names.specs.Lookup.{lookup}
-use Rattle.names.specs.declared.lookup.Found.{Found}
-use Rattle.names.specs.declared.lookup.Found.the-variants.{At, Nothing}
+use Rattle.items.specs.Identity.{nameAt}
+use Rattle.items.specs.Word.{nameOf, wordOffset}
+use Rattle.names.specs.Premises.{Stands, AllStand}
+use Rattle.names.specs.NameWords.{itemsAt}
+use Rattle.lookups.specs.LookupWords.{lookup}
+use Rattle.lookups.specs.declared.lookup.Found.{Found}
+use Rattle.lookups.specs.declared.lookup.Found.the-variants.{At, Nothing}
 use Rattle.names.proofs.HeldLaws.{stand-first, stand-rest, stand-name}
-use Rattle.names.proofs.LookupLaws.{lookup-told}
-use Rattle.objects.specs.Object.{Object, objectAt}
-use Rattle.held.specs.Chart.{objectName}
-use Rattle.writing.specs.All.{objectsAt}
+use Rattle.lookups.proofs.LookupLaws.{lookup-told}
+use Rattle.items.specs.Item.{Item, itemAt, itemName}
 use Rattle.changes.specs.Change.{amendmentAt}
 use Rattle.changes.specs.Amend.{heldBy, foundCode, amendmentCode}
 use Rattle.amend.specs.Pairs.{Paired}
 use Rattle.amendments.specs.Amendable.{objectFound, Amendable}
 
 -- ---- among the objects as among the words
-name-object : {s : List ℕ} {w : ℕ} → Stands s w → objectName (objectAt s (placeOf w)) ≡ nameOf w
-unfolding itemName
+name-object : {s : List ℕ} {w : ℕ} → Stands s w → itemName (itemAt s (wordOffset w)) ≡ nameOf w
 name-object stands = sym (stand-name stands)
 
-held-found : (s ws : List ℕ) (name : ℕ) → AllStand s ws → heldBy (objectsAt s ws) name ≡ objectFound s (lookup ws name)
-unfolding heldBy objectsAt lookup objectFound
+held-found : (s ws : List ℕ) (name : ℕ) → AllStand s ws → heldBy (itemsAt s ws) name ≡ objectFound s (lookup ws name)
+unfolding heldBy itemsAt lookup objectFound
 held-found s [] name all = refl
 held-found s (w ∷ ws) name all =
     ⊎-elim (λ (h : eqb (nameOf w) name ≡ true). rw (name-object (stand-first all), h))
@@ -39,16 +37,16 @@ held-found s (w ∷ ws) name all =
 -- ---- the record of the update at `by`: r is what the look-up of its name answered
 module _ (cell ws update : List ℕ) (by : ℕ) (known : Amendable cell ws update by) (name : ℕ) (named : name ≡ nameAt update by)
     (r : Found) (is : r ≡ lookup ws name) where
-  code-is : amendmentCode (objectsAt cell ws) (amendmentAt update by) ≡ foundCode (amendmentAt update by) (objectFound cell r)
+  code-is : amendmentCode (itemsAt cell ws) (amendmentAt update by) ≡ foundCode (amendmentAt update by) (objectFound cell r)
   unfolding amendmentCode nameAt
-  code-is = ap (λ (o : Option Object). foundCode (amendmentAt update by) o) (held-found cell ws (nameAt update by) (known .stand) ∙ rw (is, named))
+  code-is = ap (λ (o : Option Item). foundCode (amendmentAt update by) o) (held-found cell ws (nameAt update by) (known .stand) ∙ rw (is, named))
 
-  pub code-none : r ≡ Nothing → (x : ℕ) → x ≡ foundCode (amendmentAt update by) none → x ≡ amendmentCode (objectsAt cell ws) (amendmentAt update by)
+  pub code-none : r ≡ Nothing → (x : ℕ) → x ≡ foundCode (amendmentAt update by) none → x ≡ amendmentCode (itemsAt cell ws) (amendmentAt update by)
   unfolding objectFound
   code-none e x told = told ∙ sym (code-is ∙ rw e)
 
   module _ (at : ℕ) (found : r ≡ At at) where
-    pub code-some : (x : ℕ) → x ≡ foundCode (amendmentAt update by) (some (objectAt cell at)) → x ≡ amendmentCode (objectsAt cell ws) (amendmentAt update by)
+    pub code-some : (x : ℕ) → x ≡ foundCode (amendmentAt update by) (some (itemAt cell at)) → x ≡ amendmentCode (itemsAt cell ws) (amendmentAt update by)
     unfolding objectFound
     code-some x told = told ∙ sym (code-is ∙ rw found)
 

@@ -1,3 +1,2 @@
 -- The notions of `amendments`.
-pub mod Brought
 pub mod Amendable

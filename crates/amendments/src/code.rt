@@ -3,28 +3,32 @@ ghost use Prim.Native.Nat.{_+_, _*_, _≤_};
 ghost use mathlib.Core.Option.{none, some};
 ghost use mathlib.Core.Path.{_≡_};
 ghost use lib.ListN.{length};
-ghost use Rattle.iso8211.specs.Field.{HeadOf};
+ghost use Rattle.iso8211.specs.Premises.{HeadOf};
 ghost use Rattle.words.specs.Words.{wordsIn};
-ghost use Rattle.items.specs.Lists.{LaidOut};
-ghost use Rattle.items.specs.Identity.{Identified, ruinAt};
-ghost use Rattle.objects.specs.Object.{objectAt};
-ghost use Rattle.writing.specs.All.{objectsAt};
+ghost use Rattle.items.specs.Premises.{LaidOut, Identified};
+ghost use Rattle.items.specs.Identity.{ruinAt};
+ghost use Rattle.items.specs.Item.{itemAt};
+ghost use Rattle.names.specs.NameWords.{itemsAt};
 ghost use Rattle.changes.specs.Change.{amendmentAt};
 ghost use Rattle.changes.specs.Amend.{editAllowed, foundCode, amendmentCode};
 ghost use Rattle.amend.specs.Sides.{Areas};
 ghost use Rattle.amend.specs.Pairs.{Paired};
 ghost use Rattle.amendments.specs.Amendable.{Amendable};
-use crate::brought::delete_allowed;
-use crate::brought::insert_allowed;
-use crate::identity::identity_same;
-use amend::rule::lists_allowed;
+use allowed::brought::delete_allowed;
+use allowed::brought::insert_allowed;
+use allowed::identity::identity_same;
+use allowed::rule::lists_allowed;
+use answers::codes::EDIT;
+use answers::codes::IDENTITY;
+use answers::codes::TARGET;
+use answers::codes::VERSION;
 use iso8211::field::Head;
 use iso8211::field::head_of;
 use items::identity::name_of;
 use items::identity::ruin_of;
 use items::identity::version_of;
-use names::lookup::Found;
-use names::lookup::lookup;
+use lookups::lookup::Found;
+use lookups::lookup::lookup;
 
 // The code of a record whose name the cell doesn't hold.
 fn missing_code(update: &[u8], by: usize, h: Head) -> u32
@@ -32,13 +36,13 @@ fn missing_code(update: &[u8], by: usize, h: Head) -> u32
     ensures { λ r. ⌜ r ≡ foundCode (amendmentAt (now (update .entry)) by) none ⌝ }
 {
     if ruin_of(update, by, h) != 1 {
-        return 13;
+        return TARGET;
     }
     if version_of(update, by, h) != 1 {
-        return 14;
+        return VERSION;
     }
     if !insert_allowed(update, by, h) {
-        return 16;
+        return EDIT;
     }
     0
 }
@@ -57,7 +61,7 @@ fn edit_allowed(
 ) -> bool
     requires { ⌜ Paired (now cell) at (now update) by × HeadOf (now update) by h × Identified (now update) by × (ruin ≡ ruinAt (now update) by)
         × Areas (now join) (now table) × (199999 ≤ length (now room)) ⌝ }
-    ensures { λ r. ⌜ (r ≡ editAllowed (amendmentAt (now (update .entry)) by) (objectAt (now (cell .entry)) at)) × Areas (now (join .exit)) (now (table .exit)) ⌝ }
+    ensures { λ r. ⌜ (r ≡ editAllowed (amendmentAt (now (update .entry)) by) (itemAt (now (cell .entry)) at)) × Areas (now (join .exit)) (now (table .exit)) ⌝ }
 {
     if ruin == 2 {
         return delete_allowed(update, by, h);
@@ -78,21 +82,21 @@ fn held_code(
 ) -> u32
     requires { ⌜ Paired (now cell) at (now update) by × HeadOf (now update) by h × Identified (now update) by × Areas (now join) (now table)
         × (199999 ≤ length (now room)) ⌝ }
-    ensures { λ r. ⌜ (r ≡ foundCode (amendmentAt (now (update .entry)) by) (some (objectAt (now (cell .entry)) at))) × Areas (now (join .exit)) (now (table .exit)) ⌝ }
+    ensures { λ r. ⌜ (r ≡ foundCode (amendmentAt (now (update .entry)) by) (some (itemAt (now (cell .entry)) at))) × Areas (now (join .exit)) (now (table .exit)) ⌝ }
 {
     let ruin = ruin_of(update, by, h);
     if ruin == 1 {
-        return 13;
+        return TARGET;
     }
     let hc = head_of(cell, at);
     if version_of(update, by, h) != version_of(cell, at, hc) + 1 {
-        return 14;
+        return VERSION;
     }
     if !identity_same(update, by, h, cell, at, hc) {
-        return 15;
+        return IDENTITY;
     }
     if !edit_allowed(cell, at, update, by, h, ruin, join, table, room) {
-        return 16;
+        return EDIT;
     }
     0
 }
@@ -112,7 +116,7 @@ pub fn amendment_code(
 ) -> u32
     requires { ⌜ Amendable (now cell) (wordsIn (now work) from n) (now update) by × (8 * (from + n) ≤ length (now work)) × Areas (now join) (now table)
         × (199999 ≤ length (now room)) ⌝ }
-    ensures { λ r. ⌜ (r ≡ amendmentCode (objectsAt (now (cell .entry)) (wordsIn (now (work .entry)) from n)) (amendmentAt (now (update .entry)) by))
+    ensures { λ r. ⌜ (r ≡ amendmentCode (itemsAt (now (cell .entry)) (wordsIn (now (work .entry)) from n)) (amendmentAt (now (update .entry)) by))
         × Areas (now (join .exit)) (now (table .exit)) ⌝ }
 {
     let h = head_of(update, by);

@@ -3,14 +3,14 @@ ghost use Prim.Native.Nat.{_+_, _*_, _≤_};
 ghost use mathlib.Core.Path.{_≡_};
 ghost use lib.ListN.{length};
 ghost use Rattle.words.specs.Words.{wordsIn};
-ghost use Rattle.writing.specs.All.{objectsAt};
+ghost use Rattle.names.specs.NameWords.{itemsAt};
 ghost use Rattle.changes.specs.Change.{changeOf};
 ghost use Rattle.changes.specs.Amend.{amendmentsFault, placedIn};
 ghost use Rattle.amend.specs.Sides.{Areas};
 ghost use Rattle.amendments.specs.Amendable.{AllAmendable};
 use crate::code::amendment_code;
-use chart::Refusal;
-use chart::read::refuse;
+use answers::Refusal;
+use answers::refusal::refuse;
 use iso8211::field::record_end;
 use names::walk::start_of;
 
@@ -29,7 +29,7 @@ pub fn amendments_fault(
 ) -> Refusal
     requires { ⌜ AllAmendable (now cell) (wordsIn (now work) from n) (now update) m × (8 * (from + n) ≤ length (now work)) × Areas (now join) (now table)
         × (199999 ≤ length (now room)) ⌝ }
-    ensures { λ r. ⌜ (r ≡ placedIn (now (update .entry)) (amendmentsFault (objectsAt (now (cell .entry)) (wordsIn (now (work .entry)) from n)) 2
+    ensures { λ r. ⌜ (r ≡ placedIn (now (update .entry)) (amendmentsFault (itemsAt (now (cell .entry)) (wordsIn (now (work .entry)) from n)) 2
         (changeOf (now (update .entry)) m .amendments))) × Areas (now (join .exit)) (now (table .exit)) ⌝ }
 {
     let mut at = start_of(update, m, 2);

@@ -1,16 +1,17 @@
 // Codes 9 to 16, and the areas in which the record of a changed object is built.
 ghost use mathlib.Core.Path.{_≡_};
 ghost use lib.ListN.{length, replicate};
-ghost use Rattle.result.specs.Able.{Rooms};
-ghost use Rattle.loader.specs.Apply.{resultOf, changeAnswer};
-ghost use Rattle.apply.specs.Stages.{amendedAnswer, areaBy, Amending, Before};
-use crate::merged::merged;
+ghost use Rattle.resultitems.specs.Able.{Rooms};
+ghost use Rattle.loader.specs.Admit.{areaBy};
+ghost use Rattle.loader.specs.Apply.{resultOf};
+ghost use Rattle.resultstages.specs.Stages.{amendedAnswer, changeAnswer, Amending, BothReady};
 use amendments::fault::amendments_fault;
-use chart::read::refuse;
+use answers::Answer;
+use answers::answer::filed;
+use answers::refusal::refuse;
 use follow::follow_code;
 use follow::header_at;
-use reader::Answer;
-use reader::answer::filed;
+use resultstages::merged::merged;
 
 // Codes 13 to 16, then what comes of the two files.
 fn amended(
@@ -97,7 +98,7 @@ pub fn changed(
     work: &mut [u8],
     out: &mut [u8],
 ) -> Answer
-    requires { ⌜ Before (now cell) n (now update) m (now work) ⌝ }
+    requires { ⌜ BothReady (now cell) n (now update) m (now work) ⌝ }
     ensures { λ r. ⌜ r ≡ changeAnswer (now (cell .entry)) n (now (update .entry)) m (length (now (out .entry))) ⌝ }
     ensures { λ r. ⌜ now (out .exit) ≡ areaBy r (resultOf (now (cell .entry)) n (now (update .entry)) m) (now (out .entry)) ⌝ }
 {

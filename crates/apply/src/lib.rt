@@ -4,23 +4,22 @@
 // `renewal`. What it promises is `applyOf` and `applyArea` of `loader`.
 ghost use mathlib.Core.Path.{_≡_};
 ghost use lib.ListN.{length, replicate};
-ghost use Rattle.reader.specs.Reader.{frontOf, Short};
-ghost use Rattle.loader.specs.Apply.{applySecond, secondArea, applyOf, applyArea};
+ghost use Rattle.reader.specs.Reader.{frontOf};
+ghost use Rattle.loader.specs.Apply.{applyOf, applyArea};
+use answers::Answer;
 use checked::applied;
 use octets::area::clear;
-use reader::Answer;
 use reader::front::Front;
 use reader::front::opened;
 
 pub mod amended;
 pub mod checked;
-pub mod merged;
 
-// A framed cell of n records, and an update that is still to be opened.
+// An opened cell of n records, and an update that is still to be opened.
 fn update_opened(cell: &[u8], n: usize, update: &[u8], out: &mut [u8], work: &mut [u8]) -> Answer
-    requires { ⌜ Short (now cell) n ⌝ }
-    ensures { λ r. ⌜ r ≡ applySecond (now (cell .entry)) n (now (update .entry)) (length (now (work .entry))) (length (now (out .entry))) (frontOf 2 (now (update .entry))) ⌝ }
-    ensures { λ _. ⌜ now (out .exit) ≡ secondArea (now (cell .entry)) n (now (update .entry)) (length (now (work .entry))) (now (out .entry)) (frontOf 2 (now (update .entry))) ⌝ }
+    requires { ⌜ frontOf 1 (now cell) ≡ Front.Count n ⌝ }
+    ensures { λ r. ⌜ r ≡ applyOf (now (cell .entry)) (now (update .entry)) (length (now (work .entry))) (length (now (out .entry))) ⌝ }
+    ensures { λ _. ⌜ now (out .exit) ≡ applyArea (now (cell .entry)) (now (update .entry)) (length (now (work .entry))) (now (out .entry)) ⌝ }
 {
     let front = opened(update, 2);
     match front {

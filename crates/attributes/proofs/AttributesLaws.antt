@@ -8,13 +8,15 @@ use native.Mathlib.Omega.{arith}
 use lib.ListN.{length, take, drop, getD, set}
 use lib.Dec.{eqb}
 use borrow.Author.Tests.{eq-eqb, ne-eqb, not-true, not-false}
-use Rattle.octets.specs.Number.{byteAt, Reads}
+use Rattle.octets.specs.Number.{byteAt}
+use Rattle.octets.specs.Premises.{Reads}
 use Rattle.entries.specs.Entries.{entryLen, entriesOf}
 use Rattle.entries.specs.Rules.{through}
 use Rattle.entries.proofs.WalkLaws.{walk-end, walk-more}
-use Rattle.values.specs.Text.{textGood}
+use Rattle.headvalues.specs.Text.{textGood}
 use Rattle.words.specs.Order.{isIn}
-use Rattle.attributes.specs.Attributes.{attribute, labelOf, valueOf, isRemoval, valueGood, attributesFrom, attributesFault, metLabel, metAfter, Stamped, Upto}
+use Rattle.attributes.specs.Attributes.{attribute, labelOf, valueOf, isRemoval, valueGood, attributesFrom, attributesFault, metLabel, metAfter}
+use Rattle.attributes.specs.Premises.{Stamped, Upto}
 use Rattle.attributes.specs.Judged.{AttributesJudged}
 use Rattle.attributes.proofs.PartLaws.{part-byte, part-number, part-long, part-text, attribute-long}
 use Rattle.attributes.proofs.StampLaws.{stamped-met, stamped-new, stamped-set, upto-set}
@@ -73,7 +75,8 @@ walked-start update high c stamp t = record {
 }
 
 -- ---- the turns: n is the length of the entry at `at` as it was measured
-module _ {update high : Bool} {c : List ℕ} {stamp : ℕ} {before t : List ℕ} {at : ℕ} (w : Walked update high c stamp before t at) (n : ℕ) (size : n ≡ entryLen attribute (drop at c)) where
+module _ {update high : Bool} {c : List ℕ} {stamp : ℕ} {before t : List ℕ} {at : ℕ} (w : Walked update high c stamp before t at) (n : ℕ)
+    (size : n ≡ entryLen attribute (drop at c)) where
   pub walked-end : n ≡ 0 → AttributesJudged update high c stamp before t 0
   unfolding attributesFrom through
   walked-end h =

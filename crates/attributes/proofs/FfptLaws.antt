@@ -10,7 +10,7 @@ use borrow.Author.Tests.{lt-leb, le-leb, not-true, not-false}
 use Rattle.octets.specs.Number.{byteAt}
 use Rattle.entries.specs.Entries.{entryLen, entriesOf}
 use Rattle.entries.proofs.WalkLaws.{walk-end, walk-more}
-use Rattle.values.specs.Text.{textGood}
+use Rattle.headvalues.specs.Text.{textGood}
 use Rattle.attributes.specs.Attributes.{pointer, rindGood, commentOf, ffptFrom, ffptFault}
 use Rattle.attributes.proofs.PartLaws.{part-byte, part-long, part-text, pointer-long}
 

@@ -10,7 +10,7 @@ use lib.Seq.{getD-set-same, getD-set-other}
 use borrow.Author.Tests.{eq-eqb, ne-eqb}
 use Rattle.octets.proofs.Cases.{eq-or-ne}
 use Rattle.words.specs.Order.{isIn}
-use Rattle.attributes.specs.Attributes.{Stamped, Upto}
+use Rattle.attributes.specs.Premises.{Stamped, Upto}
 
 -- ---- a table of zeros, before the first list
 zero-at : (k l : ℕ) → getD {A = ℕ} (replicate k 0) l 0 ≡ 0

@@ -1,31 +1,31 @@
 -- The values of a list of attributes (ATTV, ATTF, NATF) and of a list of FFPT, on the bytes of one field. Assumes nothing.
-use Prim.Native.Nat.{ℕ, _+_, _-_, _≤_, _<_}
+use Prim.Native.Nat.{ℕ, _+_, _-_}
 use mathlib.Core.Bool.{Bool, false, cond, _&&_, _||_}
 use mathlib.Core.List.{List, [], _∷_}
-use mathlib.Core.Path.{_≡_}
-use lib.ListN.{length, take, drop, getD}
+use lib.ListN.{length, take, drop}
 use lib.Dec.{eqb, leb}
 use Rattle.octets.specs.Number.{byteAt, numAt}
 use Rattle.entries.specs.Entries.{entriesOf}
 use Rattle.entries.specs.Rules.{through}
 use Rattle.entries.specs.declared.Shape.{Shape}
 use Rattle.words.specs.Order.{isIn}
-use Rattle.values.specs.Text.{textGood}
+use Rattle.headvalues.specs.Text.{textGood}
+use Rattle.table.specs.Offsets.{ATVL, FFPT-RIND, FFPT-COMT}
 
 -- an attribute: ATTL of two bytes, then ATVL, ended by 1F
 abbrev pub attribute : Shape
-attribute = record { fixed = 2; unit = 1 }
+attribute = record { fixed = ATVL; unit = 1 }
 
 unfoldable pub labelOf : List ℕ → ℕ
 labelOf e = numAt e 0 2
 
 -- the bytes of its value, without the 1F
 unfoldable pub valueOf : List ℕ → List ℕ
-valueOf e = take (length e - 3) (drop 2 e)
+valueOf e = take (length e - 3) (drop ATVL e)
 
 -- "an update value may be 7F alone"
 unfoldable pub isRemoval : List ℕ → Bool
-isRemoval e = eqb (length e) 4 && eqb (byteAt e 2) 127
+isRemoval e = eqb (length e) 4 && eqb (byteAt e ATVL) 127
 
 -- "Text bytes 20-7E hex; at level 1 in ATTF or NATF also A0-FF; an update value may be 7F alone"
 unfoldable pub valueGood : Bool → Bool → List ℕ → Bool
@@ -49,24 +49,16 @@ metLabel seen e = labelOf e ∷ seen
 unfoldable pub metAfter : List ℕ → List ℕ → List ℕ
 metAfter seen c = through metLabel seen (entriesOf attribute c)
 
--- a table of 65,536 numbers in which the labels that were met have this stamp, and no other label has
-pub record Stamped (t : List ℕ) (stamp : ℕ) (seen : List ℕ) : Type 0 where
-  pub is : (l : ℕ) → l < 65536 → eqb (getD t l 0) stamp ≡ isIn l seen
-
--- no stamp of the table is above this one
-pub record Upto (t : List ℕ) (stamp : ℕ) : Type 0 where
-  pub is : (l : ℕ) → getD t l 0 ≤ stamp
-
 -- ---- FFPT: LNAM of eight bytes, RIND, then COMT, ended by 1F
 abbrev pub pointer : Shape
-pointer = record { fixed = 9; unit = 1 }
+pointer = record { fixed = FFPT-COMT; unit = 1 }
 
 -- "RIND 2 or 3"
 unfoldable pub rindGood : List ℕ → Bool
-rindGood e = leb 2 (byteAt e 8) && leb (byteAt e 8) 3
+rindGood e = leb 2 (byteAt e FFPT-RIND) && leb (byteAt e FFPT-RIND) 3
 
 unfoldable pub commentOf : List ℕ → List ℕ
-commentOf e = take (length e - 10) (drop 9 e)
+commentOf e = take (length e - 10) (drop FFPT-COMT e)
 
 -- entries from index `at` of the field on: 0, or 1 and the place of the first wrong subfield
 unfoldable pub ffptFrom : ℕ → List (List ℕ) → ℕ

@@ -7,7 +7,7 @@ use Rattle.octets.specs.Number.{numAt}
 use Rattle.entries.specs.Entries.{textFrom, textLen, entryLen, entriesFrom, entriesOf}
 use Rattle.entries.specs.Rules.{through}
 use Rattle.words.specs.Order.{isIn}
-use Rattle.values.specs.Text.{isText, textGood}
+use Rattle.headvalues.specs.Text.{isText, textGood}
 use Rattle.attributes.specs.Attributes.{labelOf, valueOf, isRemoval, valueGood, attributesFrom, attributesFault, metLabel, metAfter, rindGood, commentOf, ffptFrom, ffptFault}
 
 -- ATTL 5 with the value "A", then ATTL 258 with an empty one
@@ -24,7 +24,8 @@ pointed rind = 1 ∷ 0 ∷ 2 ∷ 0 ∷ 0 ∷ 0 ∷ 3 ∷ 0 ∷ rind ∷ 65 ∷ 3
 
 -- labels that the list had not met, and one that it had, in an earlier field, at the second entry
 labels : (attributesFault false false (7 ∷ []) two ≡ 0) × (attributesFault false false (258 ∷ []) two ≡ 5) × (metAfter (7 ∷ []) two ≡ 258 ∷ 5 ∷ 7 ∷ [])
-unfolding numAt textFrom textLen entryLen entriesFrom entriesOf through isIn isText textGood labelOf valueOf isRemoval valueGood attributesFrom attributesFault metLabel metAfter two
+unfolding numAt textFrom textLen entryLen entriesFrom entriesOf through isIn isText textGood labelOf valueOf isRemoval valueGood attributesFrom attributesFault metLabel metAfter
+    two
 labels = (refl, refl, refl)
 
 -- 7F alone: in an update only

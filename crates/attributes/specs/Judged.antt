@@ -1,10 +1,11 @@
--- What the judge of a field of attributes promises. Assumes nothing.
+-- What the judge of a field of attributes promises. It serves the proofs, and nothing here need be believed. Assumes nothing.
 use Prim.Native.Nat.{ℕ, _≤_}
 use mathlib.Core.Bool.{Bool}
 use mathlib.Core.List.{List}
 use mathlib.Core.Path.{_≡_}
 use lib.ListN.{length}
-use Rattle.attributes.specs.Attributes.{attributesFault, metAfter, Stamped, Upto}
+use Rattle.attributes.specs.Attributes.{attributesFault, metAfter}
+use Rattle.attributes.specs.Premises.{Stamped, Upto}
 
 -- "Repeats of a tag join into one list", "No ATTL twice in one ATTV, ATTF or NATF list": r is the fault of the field c, whatever labels
 -- the list had met in its fields before, as long as the table `before` has exactly these under the stamp; where there is none,

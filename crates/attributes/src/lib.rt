@@ -6,15 +6,17 @@ ghost use Prim.Native.Nat.{_+_, _≤_, _<_};
 ghost use mathlib.Core.Bool.{false};
 ghost use mathlib.Core.Path.{_≡_};
 ghost use lib.ListN.{length, take, drop};
-ghost use Rattle.entries.specs.Entries.{Whole};
-ghost use Rattle.values.specs.Text.{textGood};
+ghost use Rattle.entries.specs.Premises.{Whole};
+ghost use Rattle.headvalues.specs.Text.{textGood};
 ghost use Rattle.attributes.specs.Attributes.{attribute, pointer, labelOf, isRemoval, valueGood, rindGood, commentOf, ffptFault};
 ghost use Rattle.attributes.specs.Judged.{AttributesJudged};
 use entries::Shape;
 use entries::entry_len_at;
+use headvalues::text::text_good_in;
 use octets::number::get2;
 use octets::number::wide;
-use values::text::text_good_in;
+use table::offsets;
+use table::sizes;
 
 // The ATTL of the entry of n bytes at `at`.
 pub fn label_at(c: &[u8], at: usize, n: usize) -> usize
@@ -57,7 +59,14 @@ pub fn attributes_fault(c: &[u8], update: bool, high: bool, table: &mut [u32], s
 {
     let mut at: usize = 0;
     loop {
-        let n = entry_len_at(c, at, Shape { fixed: 2, unit: 1 });
+        let n = entry_len_at(
+            c,
+            at,
+            Shape {
+                fixed: sizes::ATTV,
+                unit: 1,
+            },
+        );
         if n == 0 {
             return 0;
         }
@@ -78,7 +87,7 @@ fn rind_good(c: &[u8], at: usize, n: usize) -> bool
     requires { ⌜ (10 ≤ n) × (at + n ≤ length (now c)) ⌝ }
     ensures { λ r. ⌜ r ≡ rindGood (take n (drop at (now (c .entry)))) ⌝ }
 {
-    let rind = wide(c[at + 8]);
+    let rind = wide(c[at + offsets::FFPT_RIND]);
     if rind < 2 {
         return false;
     }
@@ -90,7 +99,7 @@ fn comment_good(c: &[u8], at: usize, n: usize) -> bool
     requires { ⌜ (10 ≤ n) × (at + n ≤ length (now c)) ⌝ }
     ensures { λ r. ⌜ r ≡ textGood false (commentOf (take n (drop at (now (c .entry))))) ⌝ }
 {
-    text_good_in(c, at + 9, at + n - 1, false)
+    text_good_in(c, at + offsets::FFPT_COMT, at + n - 1, false)
 }
 
 // The first wrong subfield of a field of FFPT: 0, or 1 and its place.
@@ -100,7 +109,14 @@ pub fn ffpt_fault(c: &[u8]) -> usize
 {
     let mut at: usize = 0;
     loop {
-        let n = entry_len_at(c, at, Shape { fixed: 9, unit: 1 });
+        let n = entry_len_at(
+            c,
+            at,
+            Shape {
+                fixed: sizes::FFPT,
+                unit: 1,
+            },
+        );
         if n == 0 {
             return 0;
         }

@@ -1,7 +1,7 @@
 -- The definitions that Show stands on besides, and those of the other updates, under one name each: what unfolds the name unfolds them all. Nothing here
 -- need be believed. Assumes nothing.
 use Prim.Native.Nat.{ℕ}
-use Rattle.show.specs.Named.{isNamed, namedFrom, namedIn}
+use Rattle.shownames.specs.Named.{isNamed, namedFrom, namedIn}
 use Rattle.show.specs.Show.{spanOf, foundSight, absent, cellSight, bothSight}
 use Rattle.cases.specs.OtherUpdates.{elsewhere, heldElsewhere, fromZero, vectorDelete, sinking, inserting, lineUpdate, clearing, valued, naming, emptying, removing}
 use Rattle.cases.specs.OtherUpdates.{masking, faulty}

@@ -4,14 +4,12 @@ use mathlib.Core.List.{List, [], _∷_, map}
 use mathlib.Core.Path.{_≡_, refl}
 use Prim.Native.Nat.{ℕ}
 use Rattle.table.specs.Table.{ATTF, FSPT}
-use Rattle.chart.specs.Read.{refusal, fine}
-use Rattle.reader.specs.Reader.{answer, updateFault}
-use Rattle.objects.specs.Object.{Object}
+use Rattle.answers.specs.Answer.{refusal, fine, answer}
+use Rattle.reader.specs.Reader.{updateFault, recordsIn}
+use Rattle.items.specs.Item.{Item}
 use Rattle.held.specs.Chart.{Chart}
 use Rattle.changes.specs.Amend.{changeFault}
-use Rattle.loader.specs.Apply.{applyOf}
-use Rattle.demands.specs.Cell.{recordsIn}
-use Rattle.demands.specs.Update.{fileChange, updatedBy}
+use Rattle.loader.specs.Apply.{applyOf, fileChange, updatedBy}
 use Rattle.witness.specs.SmallCell.{small}
 use Rattle.witness.specs.SmallUpdates.{chartSmall}
 use Rattle.cases.specs.OtherUpdates.{fromZero, sinking, inserting, clearing, naming, emptying, removing, masking, faulty}
@@ -45,7 +43,7 @@ chartRemoved = updatedBy chartEmptied removing
 
 -- a list of each object: node 1, node 2, the edge, the line
 abbrev listsIn : ℕ → Chart → List (List (List ℕ))
-listsIn k c = map (λ (t : Object). t .lists k) (c .objects)
+listsIn k c = map (λ (t : Item). t .lists k) (c .items)
 
 pub attribute-given : (changeFault chartSmall (fileChange naming) ≡ fine) × (listsIn ATTF chartNamed ≡ [] ∷ [] ∷ [] ∷ ((116 ∷ 0 ∷ 65 ∷ 31 ∷ []) ∷ []) ∷ [])
 unfolding judging admitting applying smallFiles otherFiles recordsIn
@@ -65,7 +63,7 @@ unfolding judging applying smallFiles otherFiles
 attribute-files = (refl, refl, refl)
 
 -- ---- an insert: node 3 stands behind node 2
-pub inserted : (applyOf small inserting 160 2144 ≡ answer 0 0 0 2144 0) × (map (λ (t : Object). t .rcid) (updatedBy chartSmall inserting .objects) ≡ 1 ∷ 2 ∷ 3 ∷ 1 ∷ 1 ∷ [])
+pub inserted : (applyOf small inserting 160 2144 ≡ answer 0 0 0 2144 0) × (map (λ (t : Item). t .rcid) (updatedBy chartSmall inserting .items) ≡ 1 ∷ 2 ∷ 3 ∷ 1 ∷ 1 ∷ [])
 unfolding judging admitting applying smallFiles otherFiles recordsIn
 inserted = (refl, refl)
 

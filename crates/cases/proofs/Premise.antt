@@ -5,14 +5,15 @@ use mathlib.Core.List.{List, [], _∷_, List·Memᴰ·head, List·Memᴰ·tail}
 use mathlib.Core.Path.{_≡_, refl, sym, ap, _∙_}
 use native.Mathlib.Omega.{arith}
 use lib.ListN.{length, getD}
-use Rattle.reader.specs.Reader.{answer}
-use Rattle.reader.specs.declared.answer.Answer.{Answer}
+use Rattle.answers.specs.Answer.{answer}
+use Rattle.answers.specs.declared.answer.Answer.{Answer}
 use Rattle.held.specs.Chart.{Chart}
 use Rattle.held.specs.Held.{heldOf}
-use Rattle.loader.specs.Apply.{applyOf}
+use Rattle.loader.specs.Apply.{applyOf, changesIn, updatedBy}
 use Rattle.changes.specs.Rules.All.{all-none, all-more}
-use Rattle.demands.specs.Cell.{Bytes, recordsIn}
-use Rattle.demands.specs.Update.{changesIn, updatedBy, Allowed}
+use Rattle.reader.specs.Reader.{recordsIn}
+use Rattle.demands.specs.Cell.{Bytes}
+use Rattle.demands.specs.Update.{Allowed}
 use Rattle.demands.specs.ByteChart.{Whole}
 use Rattle.demands.proofs.Apply.{accepted-readable, accepted-exactly}
 use Rattle.unit.specs.Unit.{admitWrote, Offer, offered, In, BytesEach, UnitOf}
@@ -31,7 +32,7 @@ use Rattle.witness.proofs.BytesLaws.{isByte, bytes-tested}
 use Rattle.witness.proofs.Admitted.{small-bytes, small-held, room-length}
 use Rattle.witness.proofs.Applied.{small-means, small-whole, small-records, moving-bytes}
 use Rattle.witness.proofs.HeldLaws.{held-means, next-whole, accepted-here}
-use Rattle.witness.proofs.Offered.{shown-each, first-taken, room-accepted, begins}
+use Rattle.offered.proofs.Offered.{shown-each, first-taken, room-accepted, begins}
 
 -- ---- computed
 elsewhere-bytes : Bytes elsewhere

@@ -7,12 +7,12 @@ use lib.ListN.{length, take, drop}
 use borrow.Author.Tests.{le-ltb}
 use Rattle.octets.specs.Number.{bytesOf}
 use Rattle.table.specs.Text.{bytes}
-use Rattle.chart.specs.Read.{fine}
-use Rattle.reader.specs.Reader.{answer, filed, frontOf, cellFault, updateFault, workAnswer, firstRefusal, cellChecked, bothChecked}
-use Rattle.reader.specs.declared.answer.Answer.{Answer}
+use Rattle.answers.specs.Answer.{fine, answer, filed}
+use Rattle.answers.specs.First.{firstBy}
+use Rattle.reader.specs.Reader.{frontOf, fronted, cellFault, updateFault, workAnswer, cellChecked, bothChecked}
+use Rattle.answers.specs.declared.answer.Answer.{Answer}
 use Rattle.reader.specs.declared.front.Front.the-variants.{Count, Refused}
-use Rattle.show.specs.Show.{absent, cellSight, bothSight, afterReading, aloneSight, pairSight, secondSight, updateSight, firstSight, sightOf, sightAnswer, bytesOfSpan, sightBytes}
-use Rattle.show.specs.Show.{showOf, shownPart}
+use Rattle.show.specs.Show.{cellSight, bothSight, afterReading, aloneSight, pairSight, updateSight, sightOf, sightAnswer, bytesOfSpan, sightBytes, showOf, shownPart}
 use Rattle.show.specs.Place.{within, placeOfSpan, sightPlace, shownPlace}
 use Rattle.show.specs.declared.sight.Sight.the-variants.{Shown, Denied}
 use Rattle.show.proofs.Exactly.{ofCell, ofUpdate, Gives}
@@ -55,11 +55,11 @@ unfolding judging applying smallFiles
 moving-fine = refl
 
 alone : (w rcnm rcid : ℕ) → 112 ≤ w → sightOf small [] w rcnm rcid ≡ cellSight small 7 rcnm rcid
-unfolding sightOf firstSight updateSight aloneSight afterReading cellChecked workAnswer filed
+unfolding sightOf fronted updateSight aloneSight afterReading cellChecked workAnswer firstBy filed
 alone w rcnm rcid work = rw (small-front, le-ltb w (16 * 7) work, small-fine)
 
 both : (w rcnm rcid : ℕ) → 160 ≤ w → sightOf small moving w rcnm rcid ≡ bothSight small 7 moving 3 rcnm rcid
-unfolding sightOf firstSight updateSight secondSight pairSight afterReading bothChecked workAnswer firstRefusal filed
+unfolding sightOf fronted updateSight pairSight afterReading bothChecked workAnswer firstBy filed
 both w rcnm rcid work = rw (small-front, moving-length, moving-front, le-ltb w (16 * 10) work, small-fine, moving-fine)
 
 -- ---- the cell alone, with any work area of 112 bytes or more
@@ -93,7 +93,7 @@ class-22 w work = denied (alone w 10 1 work ∙ class-seen)
 
 -- a byte of work too few: 3, with the bytes needed, whatever the name
 pub alone-3 : (rcnm rcid : ℕ) → Gives small [] 111 rcnm rcid (answer 3 0 0 112 0) [] (ofCell 0)
-unfolding sightOf firstSight updateSight aloneSight afterReading cellChecked workAnswer
+unfolding sightOf fronted updateSight aloneSight afterReading cellChecked workAnswer firstBy
 alone-3 rcnm rcid = denied (rw small-front)
 
 -- ---- with the update, with any work area of 160 bytes or more
@@ -137,7 +137,7 @@ both-22 w work = (denied (both w 120 3 work ∙ both-none), denied (both w 10 1 
 
 -- a byte of work too few
 pub both-3 : (rcnm rcid : ℕ) → Gives small moving 159 rcnm rcid (answer 3 0 0 160 0) [] (ofCell 0)
-unfolding sightOf firstSight updateSight secondSight pairSight afterReading bothChecked workAnswer
+unfolding sightOf fronted updateSight pairSight afterReading bothChecked workAnswer firstBy
 both-3 rcnm rcid = denied (rw (small-front, moving-length, moving-front))
 
 -- ---- "2 Frame: framing broken": an update of one byte is no file; "an update (length 0 here means none)" is none
@@ -146,5 +146,5 @@ unfolding judging
 byte-front = refl
 
 pub byte-2 : (w rcnm rcid : ℕ) → Gives small (0 ∷ []) w rcnm rcid (answer 2 2 0 0 0) [] (ofCell 0)
-unfolding sightOf firstSight updateSight secondSight
+unfolding sightOf fronted updateSight
 byte-2 w rcnm rcid = denied (rw (small-front, byte-front))

@@ -5,8 +5,8 @@ use mathlib.Core.List.{List, [], _∷_, flatten}
 use Rattle.octets.specs.Number.{bytesOf}
 use Rattle.table.specs.Text.{bytes}
 use Rattle.header.specs.First.{firstRecord}
-use Rattle.witness.specs.Records.{fieldEnd, textEnd, declared, declaredFirst, declaredDsid, declaredDssi, declaredVrid, declaredFrid, declaredFoid, cellHeading}
-use Rattle.witness.specs.Records.{updateHeading, parameters, vrid, node, edge, frid, foid, feature}
+use Rattle.witness.specs.Records.{fieldEnd, textEnd, declared, declaredFirst, declaredDsid, declaredDssi, declaredVrid, declaredFrid, declaredFoid, cellHeading, updateHeading}
+use Rattle.witness.specs.Records.{parameters, vrid, node, edge, frid, foid, feature}
 use Rattle.witness.specs.SmallUpdates.{shift, vectorUpdate}
 
 -- ---- a second update 1: node 2 moves to another place; and what is held then

@@ -12,11 +12,12 @@ use Rattle.table.specs.Table.{rowOf, table, first}
 use Rattle.layout.proofs.KindLaws.{control-row, opens-group}
 use Rattle.layout.proofs.Promise.{full-control}
 use Rattle.items.specs.Lists.{listAt}
-use Rattle.records.specs.Pieces.{Piece, piecesAt}
-use Rattle.objects.specs.Views.{kindIn, laidIn, listIn}
-use Rattle.objects.proofs.ViewLaws.{list-seen}
-use Rattle.objects.proofs.JoinLaws.{step, absent}
-use Rattle.objects.proofs.ReadLaws.{Opened, never}
+use Rattle.records.specs.Pieces.{Piece}
+use Rattle.records.specs.Premises.{piecesAt}
+use Rattle.itemfields.specs.Views.{kindIn, laidIn, listIn}
+use Rattle.itemfields.proofs.ViewLaws.{list-seen}
+use Rattle.itemfields.proofs.JoinLaws.{step, absent}
+use Rattle.itemfields.proofs.ReadLaws.{Opened, never}
 use Rattle.changes.specs.Told.{Controlled}
 
 -- what is no list does not come again behind itself

@@ -6,8 +6,8 @@ use native.Mathlib.Omega.{arith}
 use lib.Dec.{eqb}
 use borrow.Author.Tests.{eqb-true, eq-eqb, ne-eqb}
 use Rattle.octets.proofs.Tests.{both}
-use Rattle.iso8211.specs.Same.{sameList}
-use Rattle.iso8211.proofs.SameLaws.{same-equal, same-exactly}
+use Rattle.fieldparts.specs.Same.{sameList}
+use Rattle.fieldparts.proofs.SameLaws.{same-equal, same-exactly}
 use Rattle.header.specs.Dsid.{revised}
 use Rattle.held.specs.Chart.{Header, Chart}
 use Rattle.changes.specs.Change.{Change}

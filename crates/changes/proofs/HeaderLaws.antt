@@ -12,11 +12,12 @@ use Rattle.octets.specs.Number.{byteAt}
 use Rattle.octets.specs.Digits.{digitsFrom, numberAt}
 use Rattle.octets.proofs.Tests.{both}
 use Rattle.attributes.proofs.PartLaws.{part-byte, part-long}
-use Rattle.dataset.specs.Date.{dateGood}
+use Rattle.dates.specs.Date.{dateGood}
 use Rattle.dataset.specs.Dsid.{dsnmEnd, updnEnd, dsidEnds, dsidLaid, dsnmGood, dsidFault}
 use Rattle.dataset.proofs.DsidLaws.{dsid-laid}
 use Rattle.dataset.proofs.Promise.{dsid-good}
-use Rattle.header.specs.Dsid.{numberIn, dsidOf}
+use Rattle.header.specs.Dsid.{dsidOf}
+use Rattle.layout.specs.General.{numberIn}
 use Rattle.header.specs.Known.{Known}
 use Rattle.changes.specs.Good.{DsidBrought}
 

@@ -9,8 +9,7 @@ use native.Mathlib.Omega.{arith}
 use lib.Dec.{ltb, eqb}
 use borrow.Author.Tests.{ltb-true, eqb-true, eq-eqb, ne-eqb}
 use Rattle.octets.proofs.Cases.{true-or-false}
-use Rattle.objects.specs.Object.{Object}
-use Rattle.held.specs.Chart.{objectName}
+use Rattle.items.specs.Item.{Item, itemName}
 use Rattle.merge.specs.Updated.{Differs}
 use Rattle.merge.specs.Updated.Differs.{diff-none, diff-more}
 use Rattle.merge.specs.Update.{placed, without, changed, obeyed, result}
@@ -23,65 +22,65 @@ use Rattle.changes.proofs.FitLaws.{amended-name}
 
 -- the names of an update's records
 abbrev pub nameOf : Amendment → ℕ
-nameOf a = objectName (a .object)
+nameOf a = itemName (a .object)
 
 -- ---- an insert
-placed-other : (new : Object) (n : ℕ) (l : List Object) → (objectName new ≡ n → ⊥) → heldBy (placed objectName new l) n ≡ heldBy l n
+placed-other : (new : Item) (n : ℕ) (l : List Item) → (itemName new ≡ n → ⊥) → heldBy (placed itemName new l) n ≡ heldBy l n
 unfolding heldBy placed
-placed-other new n [] ne = rw (ne-eqb (objectName new) n ne)
+placed-other new n [] ne = rw (ne-eqb (itemName new) n ne)
 placed-other new n (t ∷ ts) ne =
-    ⊎-elim (λ (h : ltb (objectName t) (objectName new) ≡ true). rw (h, placed-other new n ts ne))
-    (λ (h : ltb (objectName t) (objectName new) ≡ false). rw (h, ne-eqb (objectName new) n ne)) (true-or-false (ltb (objectName t) (objectName new)))
+    ⊎-elim (λ (h : ltb (itemName t) (itemName new) ≡ true). rw (h, placed-other new n ts ne))
+    (λ (h : ltb (itemName t) (itemName new) ≡ false). rw (h, ne-eqb (itemName new) n ne)) (true-or-false (ltb (itemName t) (itemName new)))
 
-pub placed-held : (new : Object) (l : List Object) → heldBy (placed objectName new l) (objectName new) ≡ some new
+pub placed-held : (new : Item) (l : List Item) → heldBy (placed itemName new l) (itemName new) ≡ some new
 unfolding heldBy placed
-placed-held new [] = rw (eq-eqb (objectName new) (objectName new) refl)
+placed-held new [] = rw (eq-eqb (itemName new) (itemName new) refl)
 placed-held new (t ∷ ts) =
-    ⊎-elim (λ (h : ltb (objectName t) (objectName new) ≡ true).
-    let less = ltb-true (objectName t) (objectName new) h in
-    rw (h, ne-eqb (objectName t) (objectName new) (λ z. omega arith), placed-held new ts))
-    (λ (h : ltb (objectName t) (objectName new) ≡ false). rw (h, eq-eqb (objectName new) (objectName new) refl)) (true-or-false (ltb (objectName t) (objectName new)))
+    ⊎-elim (λ (h : ltb (itemName t) (itemName new) ≡ true).
+    let less = ltb-true (itemName t) (itemName new) h in
+    rw (h, ne-eqb (itemName t) (itemName new) (λ z. omega arith), placed-held new ts))
+    (λ (h : ltb (itemName t) (itemName new) ≡ false). rw (h, eq-eqb (itemName new) (itemName new) refl)) (true-or-false (ltb (itemName t) (itemName new)))
 
 -- ---- a delete
-without-other : (m n : ℕ) (l : List Object) → (m ≡ n → ⊥) → heldBy (without objectName m l) n ≡ heldBy l n
+without-other : (m n : ℕ) (l : List Item) → (m ≡ n → ⊥) → heldBy (without itemName m l) n ≡ heldBy l n
 unfolding heldBy without
 without-other m n [] ne = refl
 without-other m n (t ∷ ts) ne =
-    ⊎-elim (λ (h : eqb (objectName t) m ≡ true).
-    let same = eqb-true (objectName t) m h in
-    rw (h, ne-eqb (objectName t) n (λ z. ne (sym same ∙ z)), without-other m n ts ne))
-    (λ (h : eqb (objectName t) m ≡ false). rw (h, without-other m n ts ne)) (true-or-false (eqb (objectName t) m))
+    ⊎-elim (λ (h : eqb (itemName t) m ≡ true).
+    let same = eqb-true (itemName t) m h in
+    rw (h, ne-eqb (itemName t) n (λ z. ne (sym same ∙ z)), without-other m n ts ne))
+    (λ (h : eqb (itemName t) m ≡ false). rw (h, without-other m n ts ne)) (true-or-false (eqb (itemName t) m))
 
-pub without-held : (n : ℕ) (l : List Object) → heldBy (without objectName n l) n ≡ none
+pub without-held : (n : ℕ) (l : List Item) → heldBy (without itemName n l) n ≡ none
 unfolding heldBy without
 without-held n [] = refl
 without-held n (t ∷ ts) =
-    ⊎-elim (λ (h : eqb (objectName t) n ≡ true). rw (h, without-held n ts))
-    (λ (h : eqb (objectName t) n ≡ false). rw (h, without-held n ts, h)) (true-or-false (eqb (objectName t) n))
+    ⊎-elim (λ (h : eqb (itemName t) n ≡ true). rw (h, without-held n ts))
+    (λ (h : eqb (itemName t) n ≡ false). rw (h, without-held n ts, h)) (true-or-false (eqb (itemName t) n))
 
 -- ---- a modify
-changed-other : (a : Amendment) (m n : ℕ) (l : List Object) → (m ≡ n → ⊥) → heldBy (changed objectName m (amended a) l) n ≡ heldBy l n
+changed-other : (a : Amendment) (m n : ℕ) (l : List Item) → (m ≡ n → ⊥) → heldBy (changed itemName m (amended a) l) n ≡ heldBy l n
 unfolding heldBy changed
 changed-other a m n [] ne = refl
 changed-other a m n (t ∷ ts) ne =
-    ⊎-elim (λ (h : eqb (objectName t) m ≡ true).
-    let same = eqb-true (objectName t) m h in
-    let out = ne-eqb (objectName t) n (λ z. ne (sym same ∙ z)) in
+    ⊎-elim (λ (h : eqb (itemName t) m ≡ true).
+    let same = eqb-true (itemName t) m h in
+    let out = ne-eqb (itemName t) n (λ z. ne (sym same ∙ z)) in
     rw (h, amended-name a t, out, changed-other a m n ts ne))
-    (λ (h : eqb (objectName t) m ≡ false). rw (h, changed-other a m n ts ne)) (true-or-false (eqb (objectName t) m))
+    (λ (h : eqb (itemName t) m ≡ false). rw (h, changed-other a m n ts ne)) (true-or-false (eqb (itemName t) m))
 
-pub changed-held : (a : Amendment) (n : ℕ) (l : List Object) (held : Object) → heldBy l n ≡ some held → heldBy (changed objectName n (amended a) l) n ≡ some (amended a held)
+pub changed-held : (a : Amendment) (n : ℕ) (l : List Item) (held : Item) → heldBy l n ≡ some held → heldBy (changed itemName n (amended a) l) n ≡ some (amended a held)
 unfolding heldBy changed
 changed-held a n [] held e = absurd (let z : _≡_ {A = ℕ} 0 1 = cc in omega arith)
 changed-held a n (t ∷ ts) held e =
-    ⊎-elim (λ (h : eqb (objectName t) n ≡ true).
+    ⊎-elim (λ (h : eqb (itemName t) n ≡ true).
     let is : some t ≡ some held = rw h at e in
     let same : t ≡ held = cc in
     rw (h, amended-name a t, h, same))
-    (λ (h : eqb (objectName t) n ≡ false). rw (h, h) (changed-held a n ts held (rw h at e))) (true-or-false (eqb (objectName t) n))
+    (λ (h : eqb (itemName t) n ≡ false). rw (h, h) (changed-held a n ts held (rw h at e))) (true-or-false (eqb (itemName t) n))
 
 -- ---- one record, and a name that it doesn't have
-pub obeyed-other : (a : Amendment) (n : ℕ) (l : List Object) → (nameOf a ≡ n → ⊥) → heldBy (obeyed byAmendment a l) n ≡ heldBy l n
+pub obeyed-other : (a : Amendment) (n : ℕ) (l : List Item) → (nameOf a ≡ n → ⊥) → heldBy (obeyed byAmendment a l) n ≡ heldBy l n
 unfolding obeyed
 obeyed-other a n l ne =
     ⊎-elim (λ (i : eqb (a .ruin) 1 ≡ true). rw i (placed-other (a .object) n l ne))
@@ -91,13 +90,13 @@ obeyed-other a n l ne =
     (true-or-false (eqb (a .ruin) 1))
 
 -- all records, and a name that none of them has
-pub result-other : (n : ℕ) (l : List Object) {us : List Amendment} → Differs nameOf n us → heldBy (result byAmendment l us) n ≡ heldBy l n
+pub result-other : (n : ℕ) (l : List Item) {us : List Amendment} → Differs nameOf n us → heldBy (result byAmendment l us) n ≡ heldBy l n
 unfolding result
 result-other n l diff-none = refl
 result-other n l (diff-more {u = a} {us = us} ne rest) = result-other n (obeyed byAmendment a l) rest ∙ obeyed-other a n l (λ z. ne (sym z))
 
 -- ---- a record is allowed or not whatever records of other names came first
-pub allowed-obeyed : (a : Amendment) {l : List Object} {us : List Amendment} → Differs nameOf (nameOf a) us → AllAllowed l us → AllAllowed (obeyed byAmendment a l) us
+pub allowed-obeyed : (a : Amendment) {l : List Item} {us : List Amendment} → Differs nameOf (nameOf a) us → AllAllowed l us → AllAllowed (obeyed byAmendment a l) us
 unfolding amendmentCode
 allowed-obeyed a diff-none allowed-none = allowed-none
 allowed-obeyed a {l} (diff-more {u = b} ne rest) (allowed-more e all) =

@@ -10,7 +10,7 @@ use native.Mathlib.Omega.{arith}
 use lib.Dec.{ltb, eqb}
 use borrow.Author.Tests.{eqb-false, eq-eqb, ne-eqb}
 use Rattle.octets.proofs.Cases.{true-or-false}
-use Rattle.objects.specs.Object.{Object}
+use Rattle.items.specs.Item.{Item}
 use Rattle.held.specs.Chart.{Chart}
 use Rattle.merge.specs.Updated.{rulesOf, Named, AllMade, Differs, Apart}
 use Rattle.merge.specs.Updated.AllMade.{made-none, made-more}
@@ -96,30 +96,30 @@ module _ {A U : Type 0} (by : merge.Change A U) (named : Named (rulesOf by)) whe
       ∙ ap (unnamed by us) (obeyed-without u held e)
 
 -- the objects that no record names are in the result as they were, in the same order, and nothing else is there that none names
-pub unnamed-kept : (c : Chart) (u : Change) → unnamed byAmendment (u .amendments) (updated c u .objects) ≡ unnamed byAmendment (u .amendments) (c .objects)
+pub unnamed-kept : (c : Chart) (u : Change) → unnamed byAmendment (u .amendments) (updated c u .items) ≡ unnamed byAmendment (u .amendments) (c .items)
 unfolding updated
-unnamed-kept c u = result-unnamed byAmendment amended-named (c .objects) (u .amendments) (all-made (u .amendments))
+unnamed-kept c u = result-unnamed byAmendment amended-named (c .items) (u .amendments) (all-made (u .amendments))
 
 -- what is held under a name that no record has
-pub other-kept : (c : Chart) (u : Change) (n : ℕ) → Differs nameOf n (u .amendments) → heldBy (updated c u .objects) n ≡ heldBy (c .objects) n
+pub other-kept : (c : Chart) (u : Change) (n : ℕ) → Differs nameOf n (u .amendments) → heldBy (updated c u .items) n ≡ heldBy (c .items) n
 unfolding updated
-other-kept c u n d = result-other n (c .objects) d
+other-kept c u n d = result-other n (c .items) d
 
 -- ---- what a record names
-insert-obeyed : (a : Amendment) (l : List Object) → Inserts l a → heldBy (obeyed byAmendment a l) (nameOf a) ≡ some (a .object)
+insert-obeyed : (a : Amendment) (l : List Item) → Inserts l a → heldBy (obeyed byAmendment a l) (nameOf a) ≡ some (a .object)
 unfolding obeyed
 insert-obeyed a l i = rw (eq-eqb (a .ruin) 1 (i .ruin)) (placed-held (a .object) l)
 
-delete-obeyed : (a : Amendment) (l : List Object) → a .ruin ≡ 2 → heldBy (obeyed byAmendment a l) (nameOf a) ≡ none
+delete-obeyed : (a : Amendment) (l : List Item) → a .ruin ≡ 2 → heldBy (obeyed byAmendment a l) (nameOf a) ≡ none
 unfolding obeyed
 delete-obeyed a l e = rw e (without-held (nameOf a) l)
 
-modify-obeyed : (a : Amendment) {t : Object} (l : List Object) → a .ruin ≡ 3 → Edits l a t → heldBy (obeyed byAmendment a l) (nameOf a) ≡ some (amended a t)
+modify-obeyed : (a : Amendment) {t : Item} (l : List Item) → a .ruin ≡ 3 → Edits l a t → heldBy (obeyed byAmendment a l) (nameOf a) ≡ some (amended a t)
 unfolding obeyed
 modify-obeyed a {t} l e i = rw (ne-eqb (a .ruin) 1 (λ z. omega arith), ne-eqb (a .ruin) 2 (λ z. omega arith)) (changed-held a (nameOf a) l t (i .found))
 
 -- the records behind it have other names
-module _ (a : Amendment) (l : List Object) {us : List Amendment} (d : Differs nameOf (nameOf a) us) where
+module _ (a : Amendment) (l : List Item) {us : List Amendment} (d : Differs nameOf (nameOf a) us) where
   here-done : (a .ruin ≡ 1) ⊎ ((a .ruin ≡ 2) ⊎ (a .ruin ≡ 3)) → Obeys l a → Done l (result byAmendment (obeyed byAmendment a l) us) a
   here-done known (obeys-insert i) = inserted (i .ruin) (result-other (nameOf a) (obeyed byAmendment a l) d ∙ insert-obeyed a l i)
   here-done known (obeys-edit {t = t} i) =
@@ -129,16 +129,16 @@ module _ (a : Amendment) (l : List Object) {us : List Amendment} (d : Differs na
       (λ (e : a .ruin ≡ 3). modified e (i .found) (result-other (nameOf a) (obeyed byAmendment a l) d ∙ modify-obeyed a l e i)) o) known
 
 -- a record in front, of another name, changes nothing of what is held
-done-before : (a b : Amendment) (l after : List Object) → (nameOf a ≡ nameOf b → ⊥) → Done (obeyed byAmendment a l) after b → Done l after b
+done-before : (a b : Amendment) (l after : List Item) → (nameOf a ≡ nameOf b → ⊥) → Done (obeyed byAmendment a l) after b → Done l after b
 done-before a b l after ne (inserted e h) = inserted e h
 done-before a b l after ne (deleted e h) = deleted e h
 done-before a b l after ne (modified e was h) = modified e (rw (obeyed-other a (nameOf b) l ne) at was) h
 
-rest-done : (a : Amendment) (l after : List Object) {us : List Amendment} → Differs nameOf (nameOf a) us → All (Done (obeyed byAmendment a l) after) us → All (Done l after) us
+rest-done : (a : Amendment) (l after : List Item) {us : List Amendment} → Differs nameOf (nameOf a) us → All (Done (obeyed byAmendment a l) after) us → All (Done l after) us
 rest-done a l after diff-none all-none = all-none
 rest-done a l after (diff-more {u = b} ne rest) (all-more h all) = all-more (done-before a b l after ne h) (rest-done a l after rest all)
 
-pub result-done : {aall nall : ℕ} (l : List Object) {us : List Amendment} → AllGood aall nall us → Apart nameOf us → AllAllowed l us
+pub result-done : {aall nall : ℕ} (l : List Item) {us : List Amendment} → AllGood aall nall us → Apart nameOf us → AllAllowed l us
     → All (Done l (result byAmendment l us)) us
 unfolding result
 result-done l good-none apart-none allowed-none = all-none
@@ -147,6 +147,6 @@ result-done l (good-more {a = a} {more = us} good goods) (apart-more d rest) (al
     (rest-done a l (result byAmendment (obeyed byAmendment a l) us) d (result-done (obeyed byAmendment a l) goods rest (allowed-obeyed a d allowed)))
 
 -- each record of an update without a fault is done
-pub named-done : (c : Chart) {u : Change} → GoodChange u → changeFault c u .code ≡ 0 → All (Done (c .objects) (updated c u .objects)) (u .amendments)
+pub named-done : (c : Chart) {u : Change} → GoodChange u → changeFault c u .code ≡ 0 → All (Done (c .items) (updated c u .items)) (u .amendments)
 unfolding updated
-named-done c {u} v fault = result-done (c .objects) (v .records) (v .names) (changes-told c u fault .1)
+named-done c {u} v fault = result-done (c .items) (v .records) (v .names) (changes-told c u fault .1)

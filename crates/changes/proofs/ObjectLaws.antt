@@ -7,10 +7,10 @@ use lib.Dec.{eqb}
 use borrow.Author.Tests.{ne-eqb}
 use Rattle.values.specs.Vrid.{isVector}
 use Rattle.items.specs.Identity.{rankOf, nameFrom}
-use Rattle.objects.specs.Object.{Object, isFeature, vectorKinds, featureKinds}
-use Rattle.objects.specs.Good.{Vector, Feature}
-use Rattle.objects.proofs.ObjectLaws.{class-small}
-use Rattle.held.specs.Chart.{objectName}
+use Rattle.items.specs.Item.{isFeature, Item, itemName}
+use Rattle.itemfields.specs.Fields.{vectorKinds, featureKinds}
+use Rattle.itemfields.specs.Good.{Vector, Feature}
+use Rattle.itemfields.proofs.FieldsLaws.{class-small}
 use Rattle.held.specs.Good.{Good}
 use Rattle.held.specs.Good.Good.{a-vector, a-feature}
 use Rattle.edits.specs.InsertDelete.{insertAllowed}
@@ -39,12 +39,12 @@ low-rank false true c h = omega arith
 low-rank false false true h = omega arith
 low-rank false false false h = absurd (let z : _≡_ {A = ℕ} 0 1 = cc in omega arith)
 
-vector-low : (t : Object) → isVector (t .rcnm) ≡ true → t .rcid ≤ 4294967294 → objectName t < 12884901888
+vector-low : (t : Item) → isVector (t .rcnm) ≡ true → t .rcid ≤ 4294967294 → itemName t < 12884901888
 unfolding nameFrom rankOf isVector
 vector-low t class high =
     let r = low-rank (eqb (t .rcnm) 110) (eqb (t .rcnm) 120) (eqb (t .rcnm) 130) class in omega arith
 
-feature-high : (t : Object) → t .rcnm ≡ 100 → 12884901888 ≤ objectName t
+feature-high : (t : Item) → t .rcnm ≡ 100 → 12884901888 ≤ itemName t
 unfolding nameFrom rankOf
 feature-high t class = rw class (omega arith)
 
@@ -79,7 +79,7 @@ inserted-object a (brought-feature b) may =
     })
 
 -- ---- a modify
-amended-vector : {aall nall : ℕ} (a : Amendment) {t : Object} → Vector aall nall t → VectorBrought aall nall (a .object) → a .object .version ≡ t .version + 1
+amended-vector : {aall nall : ℕ} (a : Amendment) {t : Item} → Vector aall nall t → VectorBrought aall nall (a .object) → a .object .version ≡ t .version + 1
     → Vector aall nall (amended a t)
 unfolding amended
 amended-vector a {t} v b e = record {
@@ -93,7 +93,7 @@ amended-vector a {t} v b e = record {
   either = either-stays (editOf a) (t .lists) (v .either);
 }
 
-amended-feature : {aall nall : ℕ} (a : Amendment) {t : Object} → Feature aall nall t → FeatureBrought aall nall (a .object) → a .object .version ≡ t .version + 1
+amended-feature : {aall nall : ℕ} (a : Amendment) {t : Item} → Feature aall nall t → FeatureBrought aall nall (a .object) → a .object .version ≡ t .version + 1
     → Feature aall nall (amended a t)
 unfolding amended
 amended-feature a {t} v b e = record {
@@ -112,7 +112,7 @@ amended-feature a {t} v b e = record {
 }
 
 -- what has the name of a vector is a vector
-pub amended-object : {aall nall : ℕ} (a : Amendment) {t : Object} → Good aall nall t → ObjectBrought aall nall (a .object) → objectName (a .object) ≡ objectName t
+pub amended-object : {aall nall : ℕ} (a : Amendment) {t : Item} → Good aall nall t → ObjectBrought aall nall (a .object) → itemName (a .object) ≡ itemName t
     → a .object .version ≡ t .version + 1 → Good aall nall (amended a t)
 amended-object a (a-vector v) (brought-vector b) same e = a-vector (amended-vector a v b e)
 amended-object a {t} (a-vector v) (brought-feature b) same e =

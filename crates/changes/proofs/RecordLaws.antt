@@ -15,11 +15,11 @@ use Rattle.values.specs.Rule.{within, ruinGood}
 use Rattle.layout.specs.Layout.{opens}
 use Rattle.layout.proofs.KindLaws.{kind-few, opens-item, opens-feature}
 use Rattle.items.specs.Identity.{ruinAt}
-use Rattle.records.specs.Pieces.{piecesAt}
-use Rattle.objects.specs.Views.{kindIn}
-use Rattle.objects.specs.Object.{Object}
-use Rattle.objects.proofs.ReadLaws.{Opened, ListsRead, VectorRead, FeatureRead, vector-read, feature-read}
-use Rattle.edits.specs.Lists.{Brought}
+use Rattle.records.specs.Premises.{piecesAt}
+use Rattle.itemfields.specs.Views.{kindIn}
+use Rattle.items.specs.Item.{Item}
+use Rattle.itemfields.proofs.ReadLaws.{Opened, ListsRead, VectorRead, FeatureRead, vector-read, feature-read}
+use Rattle.edits.specs.Premises.{Brought}
 use Rattle.changes.specs.Change.{amendmentAt}
 use Rattle.changes.specs.Good.{VectorBrought, FeatureBrought, brought-vector, brought-feature, GoodAmendment}
 
@@ -35,7 +35,7 @@ ruin-known r h =
 lists-brought : {aall nall : ℕ} {kinds : List ℕ} {ls : ℕ → List (List ℕ)} → ListsRead true aall nall kinds ls → Brought aall nall kinds ls
 lists-brought l = record { each = l .each; only = l .only; good = l .good }
 
-vector-brought : {aall nall ruin : ℕ} {t : Object} → VectorRead true aall nall ruin t → VectorBrought aall nall t
+vector-brought : {aall nall ruin : ℕ} {t : Item} → VectorRead true aall nall ruin t → VectorBrought aall nall t
 vector-brought v = record {
   class = v .class;
   id-low = v .id-low;
@@ -47,7 +47,7 @@ vector-brought v = record {
   either = v .either;
 }
 
-feature-brought : {aall nall ruin : ℕ} {t : Object} → FeatureRead true aall nall ruin t → FeatureBrought aall nall t
+feature-brought : {aall nall ruin : ℕ} {t : Item} → FeatureRead true aall nall ruin t → FeatureBrought aall nall t
 feature-brought f = record {
   class = f .class;
   id-low = f .id-low;

@@ -13,8 +13,8 @@ use Rattle.octets.proofs.Cases.{true-or-false}
 use Rattle.octets.proofs.Tests.{both, all4}
 use Rattle.entries.specs.Rules.{allOf}
 use Rattle.attributes.specs.Attributes.{labelOf, isRemoval}
-use Rattle.chart.specs.Value.{isAttributes}
-use Rattle.objects.specs.Object.{Object}
+use Rattle.fieldvalue.specs.Value.{isAttributes}
+use Rattle.items.specs.Item.{Item}
 use Rattle.held.specs.Chart.{Chart}
 use Rattle.edits.specs.Control.{Control, allowed}
 use Rattle.edits.specs.AttributeEdit.{named, change, finds, changesFind}
@@ -134,7 +134,7 @@ module _ (u : Edit) (held : ℕ → List (List ℕ)) (k : ℕ) where
   list-tested (by-none out e h) = rw (lists-uncontrolled u held k out e .0, h)
 
 -- ---- identity
-same-told : (t held : Object) → identitySame t held ≡ true → SameIdentity t held
+same-told : (t held : Item) → identitySame t held ≡ true → SameIdentity t held
 unfolding identitySame
 same-told t held h =
     let p = all4 (eqb (t .foid) (held .foid)) (eqb (t .prim) (held .prim)) (eqb (t .grup) (held .grup)) (eqb (t .objl) (held .objl)) h in
@@ -145,13 +145,13 @@ same-told t held h =
       objl = eqb-true (t .objl) (held .objl) (p .3);
     }
 
-same-tested : {t held : Object} → SameIdentity t held → identitySame t held ≡ true
+same-tested : {t held : Item} → SameIdentity t held → identitySame t held ≡ true
 unfolding identitySame
 same-tested {t} {held} s =
     rw (eq-eqb (t .foid) (held .foid) (s .foid), eq-eqb (t .prim) (held .prim) (s .prim), eq-eqb (t .grup) (held .grup) (s .grup), eq-eqb (t .objl) (held .objl) (s .objl))
 
 -- ---- one record
-module _ (held : List Object) (a : Amendment) where
+module _ (held : List Item) (a : Amendment) where
   insert-told : Inserts held a → InsertKept held a
   unfolding insertAllowed
   insert-told i =
@@ -176,7 +176,7 @@ module _ (held : List Object) (a : Amendment) where
         (all-tested (plainAt (a .object .lists)) (λ k. isAttributes k ≡ true → All (λ e. isRemoval e ≡ false) (a .object .lists k)) (plain-tested (a .object .lists)) (i .plain));
   }
 
-  module _ {t : Object} where
+  module _ {t : Item} where
     target-told : Edits held a t → Targets held a t
     target-told i = record { found = i .found; version = i .version; identity = same-told (a .object) t (i .identity) }
 
@@ -242,11 +242,11 @@ module _ (held : List Object) (a : Amendment) where
   keeps-tested (keeps-modify i) = edit-tested held a (modify-kept i)
 
 -- ---- the update whole
-records-told : {aall nall : ℕ} {held : List Object} {us : List Amendment} → AllGood aall nall us → AllAllowed held us → All (Keeps held) us
+records-told : {aall nall : ℕ} {held : List Item} {us : List Amendment} → AllGood aall nall us → AllAllowed held us → All (Keeps held) us
 records-told good-none allowed-none = all-none
 records-told {held = held} (good-more {a = a} good goods) (allowed-more e all) = all-more (keeps-told held a (good .known) e) (records-told goods all)
 
-records-tested : {held : List Object} {us : List Amendment} → All (Keeps held) us → AllAllowed held us
+records-tested : {held : List Item} {us : List Amendment} → All (Keeps held) us → AllAllowed held us
 records-tested all-none = allowed-none
 records-tested {held = held} (all-more {e = a} h all) = allowed-more (keeps-tested held a h) (records-tested all)
 

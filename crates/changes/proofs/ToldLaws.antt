@@ -13,13 +13,14 @@ use Rattle.iso8211.specs.Record.{endOf}
 use Rattle.iso8211.specs.File.{frameOf, recordAt}
 use Rattle.iso8211.specs.declared.file.Framed.the-variants.{Records}
 use Rattle.iso8211.proofs.Promise.{record-in, at-next, last-ends}
-use Rattle.described.specs.Described.{describedOf}
+use Rattle.declarations.specs.Described.{describedOf}
 use Rattle.layout.specs.Layout.{layoutFault}
 use Rattle.layout.specs.Record.{contentAt}
-use Rattle.chart.specs.Value.{valueFault}
-use Rattle.chart.specs.Read.{nextStage, isFeature, aallAt, nallAt, passedState, firstState, recordsFault, readFault}
+use Rattle.fieldvalue.specs.Value.{valueFault}
+use Rattle.chart.specs.Read.{nextStage, isFeature, passedState, firstState, recordsFault, readFault}
 use Rattle.chart.specs.declared.read.State.{State}
-use Rattle.names.specs.Names.{firstItem, Readable, twiceOf}
+use Rattle.names.specs.Premises.{Readable}
+use Rattle.names.specs.Names.{firstItem, twiceOf}
 use Rattle.reader.proofs.ReaderLaws.{readable}
 use Rattle.held.proofs.CellLaws.{told, open-record, stage-late, dsid-told}
 use Rattle.changes.specs.Change.{amendmentAt, amendmentsFrom, changeOf}
@@ -29,6 +30,7 @@ use Rattle.changes.proofs.RecordLaws.{opened-good}
 use Rattle.changes.proofs.NameLaws.{names-apart}
 use Rattle.changes.proofs.HeaderLaws.{update-known, update-brought}
 use Rattle.changes.proofs.ControlLaws.{controlled}
+use Rattle.layout.specs.General.{aallAt, nallAt}
 
 -- ---- the records behind the header
 module _ (s marks : List ℕ) (n : ℕ) (framed : frameOf s ≡ Records n) (small : (i : ℕ) → byteAt s i < 256) (aall nall : ℕ) where
@@ -76,7 +78,7 @@ update-from s marks n (suc m) framed short small all items fault once =
         aall-low = d .aall-low;
         nall-low = d .nall-low;
         records = rw less (good-from s marks n framed small (aallAt s a) (nallAt s a) m 2 (omega arith) (omega arith) (λ j low high. each j low high .0));
-        names = names-apart s n framed short (omega arith) once;
+        names = names-apart s n once;
       };
       known = update-known c (d .laid) (d .fine);
       records = λ k low high. record { good = each k low high .0; laid = items .items k low high .0; known = items .items k low high .1; controls = each k low high .1 };

@@ -8,13 +8,13 @@ use Rattle.iso8211.specs.Record.{endOf}
 use Rattle.iso8211.specs.File.{recordAt}
 use Rattle.table.specs.Table.{VRPC, SGCC, FFPC, FSPC}
 use Rattle.layout.specs.Record.{contentAt}
-use Rattle.chart.specs.Read.{aallAt, nallAt}
 use Rattle.items.specs.Lists.{listAt}
 use Rattle.items.specs.Identity.{rcnmAt, ruinAt}
-use Rattle.objects.specs.Object.{Object, isFeature, objectAt}
+use Rattle.items.specs.Item.{isFeature, Item, itemAt}
 use Rattle.header.specs.Dsid.{Dsid, dsidOf}
 use Rattle.edits.specs.Control.{Control}
 use Rattle.edits.specs.Lists.{Edit}
+use Rattle.layout.specs.General.{aallAt, nallAt}
 
 -- ---- one record of an update
 -- "VRPC, SGCC, FFPC, FSPC: b11,2b12: VPUI VPIX NVPT; .."; no bytes: the control doesn't stand
@@ -29,14 +29,14 @@ controlAt s at k = controlFrom (listAt s at k)
 -- "RUIN 1 insert, 2 delete, 3 modify"; what the record says of its object; the control of VRPT or FFPT, and that of the coordinates or FSPT
 pub record Amendment : Type 0 where
   pub ruin : ℕ
-  pub object : Object
+  pub object : Item
   pub first : Option Control
   pub second : Option Control
 
 abbrev pub amendmentAt : List ℕ → ℕ → Amendment
 amendmentAt s at = record {
   ruin = ruinAt s at;
-  object = objectAt s at;
+  object = itemAt s at;
   first = controlAt s at (cond (isFeature (rcnmAt s at)) FFPC VRPC);
   second = controlAt s at (cond (isFeature (rcnmAt s at)) FSPC SGCC);
 }

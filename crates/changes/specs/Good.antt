@@ -6,19 +6,19 @@ use mathlib.Core.Logic.{_⊎_}
 use mathlib.Core.Path.{_≡_}
 use lib.ListN.{length}
 use Rattle.table.specs.Table.{SG2D, SG3D}
-use Rattle.dataset.specs.Date.{dateGood}
+use Rattle.dates.specs.Date.{dateGood}
 use Rattle.values.specs.Vrid.{isVector}
 use Rattle.values.specs.Frid.{primGood}
 use Rattle.values.specs.Class.{objlGood}
-use Rattle.objects.specs.Object.{Object, vectorKinds, featureKinds}
+use Rattle.items.specs.Item.{Item, itemName}
+use Rattle.itemfields.specs.Fields.{vectorKinds, featureKinds}
 use Rattle.header.specs.Dsid.{Dsid}
-use Rattle.held.specs.Chart.{objectName}
-use Rattle.edits.specs.Lists.{Brought}
+use Rattle.edits.specs.Premises.{Brought}
 use Rattle.merge.specs.Updated.{Apart}
 use Rattle.changes.specs.Change.{Amendment, Change}
 
 -- ---- the object of a record: as in a cell, but that its lists may hold 7F
-pub record VectorBrought (aall nall : ℕ) (t : Object) : Type 0 where
+pub record VectorBrought (aall nall : ℕ) (t : Item) : Type 0 where
   pub class : isVector (t .rcnm) ≡ true
   pub id-low : 1 ≤ t .rcid
   pub id-high : t .rcid ≤ 4294967294
@@ -28,7 +28,7 @@ pub record VectorBrought (aall nall : ℕ) (t : Object) : Type 0 where
   pub lists : Brought aall nall vectorKinds (t .lists)
   pub either : (t .lists SG2D ≡ []) ⊎ (t .lists SG3D ≡ [])
 
-pub record FeatureBrought (aall nall : ℕ) (t : Object) : Type 0 where
+pub record FeatureBrought (aall nall : ℕ) (t : Item) : Type 0 where
   pub class : t .rcnm ≡ 100
   pub id-low : 1 ≤ t .rcid
   pub id-high : t .rcid ≤ 4294967294
@@ -42,7 +42,7 @@ pub record FeatureBrought (aall nall : ℕ) (t : Object) : Type 0 where
   pub foid-small : t .foid < 18446744073709551616
   pub lists : Brought aall nall featureKinds (t .lists)
 
-pub data ObjectBrought (aall nall : ℕ) (t : Object) : Type 0 where
+pub data ObjectBrought (aall nall : ℕ) (t : Item) : Type 0 where
   brought-vector : VectorBrought aall nall t → ObjectBrought aall nall t
   brought-feature : FeatureBrought aall nall t → ObjectBrought aall nall t
 
@@ -67,4 +67,4 @@ pub record GoodChange (u : Change) : Type 0 where
   pub aall-low : u .aall ≤ 1
   pub nall-low : u .nall ≤ 1
   pub records : AllGood (u .aall) (u .nall) (u .amendments)
-  pub names : Apart (λ (a : Amendment). objectName (a .object)) (u .amendments)
+  pub names : Apart (λ (a : Amendment). itemName (a .object)) (u .amendments)

@@ -6,9 +6,9 @@ use mathlib.Core.Option.{none, some}
 use mathlib.Core.Path.{_≡_}
 use lib.ListN.{length}
 use Rattle.attributes.specs.Attributes.{labelOf, isRemoval}
-use Rattle.chart.specs.Value.{isAttributes}
-use Rattle.objects.specs.Object.{Object}
-use Rattle.held.specs.Chart.{Header, Chart, objectName}
+use Rattle.fieldvalue.specs.Value.{isAttributes}
+use Rattle.items.specs.Item.{Item, itemName}
+use Rattle.held.specs.Chart.{Header, Chart}
 use Rattle.edits.specs.Control.{Control, Allowed}
 use Rattle.edits.specs.AttributeEdit.{named, change}
 use Rattle.edits.specs.Lists.{Edit, controlOf}
@@ -33,28 +33,28 @@ pub record Follows (h : Header) (u : Change) : Type 0 where
 
 -- ---- one record
 -- "Insert: RVER 1, no control field, no value 7F", and not "of a held name"
-pub record InsertKept (held : List Object) (a : Amendment) : Type 0 where
+pub record InsertKept (held : List Item) (a : Amendment) : Type 0 where
   pub instruction : a .ruin ≡ 1
-  pub free : heldBy held (objectName (a .object)) ≡ none
+  pub free : heldBy held (itemName (a .object)) ≡ none
   pub version : a .object .version ≡ 1
   pub uncontrolled : (a .first ≡ none) × (a .second ≡ none)
   pub plain : All (λ k. isAttributes k ≡ true → All (λ e. isRemoval e ≡ false) (a .object .lists k)) (kindsOf (a .object .rcnm))
 
 -- not "FOID, PRIM, GRUP or OBJL not the held"; a vector has none of them
-pub record SameIdentity (t held : Object) : Type 0 where
+pub record SameIdentity (t held : Item) : Type 0 where
   pub foid : t .foid ≡ held .foid
   pub prim : t .prim ≡ held .prim
   pub grup : t .grup ≡ held .grup
   pub objl : t .objl ≡ held .objl
 
 -- "Modify and delete: RVER is the held plus 1", t being what is held under the name
-pub record Targets (held : List Object) (a : Amendment) (t : Object) : Type 0 where
-  pub found : heldBy held (objectName (a .object)) ≡ some t
+pub record Targets (held : List Item) (a : Amendment) (t : Item) : Type 0 where
+  pub found : heldBy held (itemName (a .object)) ≡ some t
   pub version : a .object .version ≡ t .version + 1
   pub identity : SameIdentity (a .object) t
 
 -- "Delete: identifier fields only"
-pub record DeleteKept (held : List Object) (a : Amendment) (t : Object) : Type 0 where
+pub record DeleteKept (held : List Item) (a : Amendment) (t : Item) : Type 0 where
   pub instruction : a .ruin ≡ 2
   pub target : Targets held a t
   pub uncontrolled : (a .first ≡ none) × (a .second ≡ none)
@@ -72,24 +72,24 @@ pub data ListKept (u : Edit) (held : ℕ → List (List ℕ)) (k : ℕ) : Type 0
   by-control : {c : Control} → isAttributes k ≡ false → controlOf u held k ≡ some c → Allowed c (length (held k)) (length (u .lists k)) → ListKept u held k
   by-none : isAttributes k ≡ false → controlOf u held k ≡ none → u .lists k ≡ [] → ListKept u held k
 
-pub record ModifyKept (held : List Object) (a : Amendment) (t : Object) : Type 0 where
+pub record ModifyKept (held : List Item) (a : Amendment) (t : Item) : Type 0 where
   pub instruction : a .ruin ≡ 3
   pub target : Targets held a t
   pub lists : All (ListKept (editOf a) (t .lists)) (kindsOf (t .rcnm))
 
-pub data Keeps (held : List Object) (a : Amendment) : Type 0 where
+pub data Keeps (held : List Item) (a : Amendment) : Type 0 where
   keeps-insert : InsertKept held a → Keeps held a
-  keeps-delete : {t : Object} → DeleteKept held a t → Keeps held a
-  keeps-modify : {t : Object} → ModifyKept held a t → Keeps held a
+  keeps-delete : {t : Item} → DeleteKept held a t → Keeps held a
+  keeps-modify : {t : Item} → ModifyKept held a t → Keeps held a
 
 -- ---- the update whole: it has none of the codes 9 to 16
 pub record Acceptable (c : Chart) (u : Change) : Type 0 where
   pub header : Follows (c .header) u
-  pub records : All (Keeps (c .objects)) (u .amendments)
+  pub records : All (Keeps (c .items)) (u .amendments)
 
 -- ---- what becomes of the object that a record names: before the update and after it
-pub data Done (before after : List Object) (a : Amendment) : Type 0 where
-  inserted : a .ruin ≡ 1 → heldBy after (objectName (a .object)) ≡ some (a .object) → Done before after a
-  deleted : a .ruin ≡ 2 → heldBy after (objectName (a .object)) ≡ none → Done before after a
-  modified : {t : Object} → a .ruin ≡ 3 → heldBy before (objectName (a .object)) ≡ some t → heldBy after (objectName (a .object)) ≡ some (amended a t)
+pub data Done (before after : List Item) (a : Amendment) : Type 0 where
+  inserted : a .ruin ≡ 1 → heldBy after (itemName (a .object)) ≡ some (a .object) → Done before after a
+  deleted : a .ruin ≡ 2 → heldBy after (itemName (a .object)) ≡ none → Done before after a
+  modified : {t : Item} → a .ruin ≡ 3 → heldBy before (itemName (a .object)) ≡ some t → heldBy after (itemName (a .object)) ≡ some (amended a t)
       → Done before after a

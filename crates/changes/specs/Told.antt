@@ -8,12 +8,12 @@ use lib.ListN.{length}
 use Rattle.iso8211.specs.File.{recordAt}
 use Rattle.table.specs.Table.{rowOf}
 use Rattle.layout.specs.Record.{contentAt}
-use Rattle.chart.specs.Read.{aallAt, nallAt}
-use Rattle.items.specs.Lists.{LaidOut, listAt}
-use Rattle.items.specs.Identity.{Identified}
+use Rattle.items.specs.Premises.{LaidOut, Identified}
+use Rattle.items.specs.Lists.{listAt}
 use Rattle.header.specs.Known.{Known}
 use Rattle.changes.specs.Change.{amendmentAt, changeOf}
 use Rattle.changes.specs.Good.{GoodAmendment, GoodChange}
+use Rattle.layout.specs.General.{aallAt, nallAt}
 
 -- "VRPC, SGCC, FFPC, FSPC may stand once each": a control that stands has its five bytes
 pub record Controlled (s : List ℕ) (at : ℕ) : Type 0 where

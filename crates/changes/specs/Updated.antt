@@ -1,8 +1,8 @@
 -- What an update makes of a chart. Assumes nothing.
 use Prim.Native.Nat.{_+_}
-use Rattle.objects.specs.Object.{Object}
+use Rattle.items.specs.Item.{Item, itemName}
 use Rattle.header.specs.Dsid.{revised}
-use Rattle.held.specs.Chart.{Header, Chart, objectName}
+use Rattle.held.specs.Chart.{Header, Chart}
 use Rattle.edits.specs.Lists.{listsEdited}
 use Rattle.merge.specs.Update as merge
 use Rattle.changes.specs.Change.{Amendment, editOf, Change}
@@ -17,7 +17,7 @@ updatedHeader h u = record {
 }
 
 -- a modify raises RVER by 1 and edits the lists; all else of the object stays
-unfoldable pub amended : Amendment → Object → Object
+unfoldable pub amended : Amendment → Item → Item
 amended a t = record {
   rcnm = t .rcnm;
   rcid = t .rcid;
@@ -30,10 +30,10 @@ amended a t = record {
 }
 
 -- an insert brings the record's own object
-abbrev pub byAmendment : merge.Change Object Amendment
+abbrev pub byAmendment : merge.Change Item Amendment
 byAmendment = record {
-  key = objectName;
-  name = λ (a : Amendment). objectName (a .object);
+  key = itemName;
+  name = λ (a : Amendment). itemName (a .object);
   ruin = λ (a : Amendment). a .ruin;
   made = λ (a : Amendment). a .object;
   edit = amended;
@@ -41,4 +41,4 @@ byAmendment = record {
 
 -- the records of the update, one after the other, on what is held
 unfoldable pub updated : Chart → Change → Chart
-updated c u = record { header = updatedHeader (c .header) u; objects = merge.result byAmendment (c .objects) (u .amendments) }
+updated c u = record { header = updatedHeader (c .header) u; items = merge.result byAmendment (c .items) (u .amendments) }

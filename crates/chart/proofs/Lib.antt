@@ -1,4 +1,3 @@
 -- Laws of `chart`.
-pub mod ValueLaws
 pub mod ReadLaws
 pub mod Promise

@@ -14,18 +14,19 @@ use Rattle.iso8211.specs.Record.{endOf}
 use Rattle.iso8211.specs.File.{frameOf, recordAt}
 use Rattle.iso8211.specs.declared.file.Framed.the-variants.{Records}
 use Rattle.iso8211.proofs.Promise.{at-next, last-ends}
-use Rattle.described.specs.Described.{describedOf}
+use Rattle.declarations.specs.Described.{describedOf}
 use Rattle.iso8211.specs.Field.{countAt, fieldAt, FieldsIn}
 use Rattle.table.specs.Table.{DSSI, DSPM, VRID, FRID}
-use Rattle.values.specs.Dssi.{dssiFault}
-use Rattle.values.specs.Dspm.{dspmFault}
+use Rattle.headvalues.specs.Dssi.{dssiFault}
+use Rattle.headvalues.specs.Dspm.{dspmFault}
 use Rattle.values.specs.Vrid.{vridFault}
 use Rattle.values.specs.Frid.{fridFault}
 use Rattle.layout.specs.Layout.{layoutFault, start}
 use Rattle.layout.specs.Record.{kindAt, contentAt}
-use Rattle.chart.specs.Value.{fieldFault, seenBefore, seenAfter, valuesFrom, valueFault}
-use Rattle.chart.specs.Read.{refusal, nextStage, isFeature, passedState, firstState, recordsFault, readFault}
-use Rattle.chart.specs.declared.read.Refusal.{Refusal}
+use Rattle.fieldvalue.specs.Value.{fieldFault, seenBefore, seenAfter, valuesFrom, valueFault}
+use Rattle.answers.specs.Answer.{refusal}
+use Rattle.chart.specs.Read.{nextStage, isFeature, passedState, firstState, recordsFault, readFault}
+use Rattle.answers.specs.declared.refusal.Refusal.{Refusal}
 use Rattle.chart.specs.declared.read.State.{State}
 
 -- a record whose layout and values are good, read as one of this stage and at these levels
@@ -110,7 +111,8 @@ unfolding passedState
 passed-stage update s at st k stage low = stage-next update (isFeature s at) k (st .stage) stage low
 
 -- out of an answer without a refusal
-apart : (good fair : Bool) (a b : Refusal) (on : Refusal) → (a .code ≡ 0 → ⊥) → (b .code ≡ 0 → ⊥) → (cond good (cond fair on b) a) .code ≡ 0 → (good ≡ true) × (fair ≡ true) × (on .code ≡ 0)
+apart : (good fair : Bool) (a b : Refusal) (on : Refusal) → (a .code ≡ 0 → ⊥) → (b .code ≡ 0 → ⊥) → (cond good (cond fair on b) a) .code ≡ 0 → (good ≡ true) × (fair ≡ true)
+    × (on .code ≡ 0)
 apart true true a b on ha hb h = (refl, refl, h)
 apart true false a b on ha hb h = absurd (hb h)
 apart false fair a b on ha hb h = absurd (ha h)
@@ -120,7 +122,8 @@ pub record Here (update : Bool) (marks s : List ℕ) (j : ℕ) : Type 0 where
   pub good : Good update marks s (recordAt s j)
   pub stage : StageAt update j (good .state .stage)
 
-good-from : (m : ℕ) (update : Bool) (marks s : List ℕ) (k at : ℕ) (st : State) → recordsFault m update marks s k at st .code ≡ 0 → at ≡ recordAt s k → StageAt update k (st .stage) → 1 ≤ k
+good-from : (m : ℕ) (update : Bool) (marks s : List ℕ) (k at : ℕ) (st : State) → recordsFault m update marks s k at st .code ≡ 0 → at ≡ recordAt s k
+    → StageAt update k (st .stage) → 1 ≤ k
     → ((j : ℕ) → k ≤ j → j < k + m → Here update marks s j) × ((update ≡ false → 3 ≤ k + m) × (2 ≤ k + m))
 unfolding recordsFault
 good-from zero update marks s k at st h e stage low =
@@ -139,7 +142,8 @@ good-from zero update marks s k at st h e stage low =
 good-from (suc m) update marks s k at st h e stage low =
     let l = layoutFault update (st .stage) marks s at in
     let v = valueFault update (st .aall) (st .nall) s at in
-    let a = apart (eqb l 0) (eqb v 0) (refusal 5 k l) (refusal 6 k v) (recordsFault m update marks s (k + 1) (endOf s at) (passedState update s at st)) (λ z. omega arith) (λ z. omega arith) h in
+    let a = apart (eqb l 0) (eqb v 0) (refusal 5 k l) (refusal 6 k v) (recordsFault m update marks s (k + 1) (endOf s at) (passedState update s at st)) (λ z. omega arith)
+    (λ z. omega arith) h in
     let next = good-from m update marks s (k + 1) (endOf s at) (passedState update s at st) (a .2) (at-next s k at e)
     (passed-stage update s at st k stage low) (omega arith) in
     let here : Here update marks s k = record { good = record { state = st; laid = rw (← e) (eqb-true _ _ (a .0)); valued = rw (← e) (eqb-true _ _ (a .1)) }; stage = stage } in (
@@ -166,7 +170,8 @@ pub record Fair (update : Bool) (aall nall k : ℕ) (c : List ℕ) : Type 0 wher
   pub seen : List ℕ
   pub none : fieldFault update aall nall k seen c ≡ 0
 
-fair-from : (n : ℕ) (update : Bool) (aall nall : ℕ) (s : List ℕ) (at i prev : ℕ) (seen : List ℕ) → FieldsIn s at → i + n ≤ countAt s at → valuesFrom n update aall nall s at i prev seen ≡ 0
+fair-from : (n : ℕ) (update : Bool) (aall nall : ℕ) (s : List ℕ) (at i prev : ℕ) (seen : List ℕ) → FieldsIn s at → i + n ≤ countAt s at
+    → valuesFrom n update aall nall s at i prev seen ≡ 0
     → (j : ℕ) → i ≤ j → j < i + n → Fair update aall nall (kindAt s at j) (contentAt s at j)
 unfolding valuesFrom
 fair-from zero update aall nall s at i prev seen known fit h j lo hi = absurd (omega arith)
@@ -174,7 +179,8 @@ fair-from (suc n) update aall nall s at i prev seen known fit h j lo hi =
     let fault = fieldFault update aall nall (kindAt s at i) (seenBefore prev (kindAt s at i) seen) (contentAt s at i) in
     ⊎-elim (λ (z : fault ≡ 0).
     ⊎-elim (λ (same : i ≡ j). rw (← same) (record { seen = seenBefore prev (kindAt s at i) seen; none = z }))
-    (λ (other : i ≡ j → ⊥). fair-from n update aall nall s at (i + 1) (kindAt s at i) (seenAfter (kindAt s at i) (seenBefore prev (kindAt s at i) seen) (contentAt s at i)) known (omega arith)
+    (λ (other : i ≡ j → ⊥). fair-from n update aall nall s at (i + 1) (kindAt s at i) (seenAfter (kindAt s at i) (seenBefore prev (kindAt s at i) seen) (contentAt s at i)) known
+    (omega arith)
     (rw (eq-eqb fault 0 z) at h) j (omega arith) (omega arith))
     (eq-or-ne i j))
     (λ (n : fault ≡ 0 → ⊥).
@@ -184,7 +190,8 @@ fair-from (suc n) update aall nall s at i prev seen known fit h j lo hi =
     absurd (omega arith))
     (eq-or-ne fault 0)
 
-pub fair : (update : Bool) (aall nall : ℕ) (s : List ℕ) (at : ℕ) → FieldsIn s at → valueFault update aall nall s at ≡ 0 → (j : ℕ) → j < countAt s at → Fair update aall nall (kindAt s at j) (contentAt s at j)
+pub fair : (update : Bool) (aall nall : ℕ) (s : List ℕ) (at : ℕ) → FieldsIn s at → valueFault update aall nall s at ≡ 0 → (j : ℕ) → j < countAt s at
+    → Fair update aall nall (kindAt s at j) (contentAt s at j)
 unfolding valueFault
 fair update aall nall s at known h j less = fair-from (countAt s at) update aall nall s at 0 start [] known (omega arith) h j (omega arith) (omega arith)
 

@@ -5,27 +5,32 @@ use mathlib.Core.List.{List, []}
 use mathlib.Core.Path.{_≡_, sym, ap, _∙_}
 use native.Mathlib.Omega.{arith}
 use lib.ListN.{length, replicate, length-replicate}
-use lib.Dec.{eqb, ltb}
+use lib.Dec.{eqb}
 use borrow.Author.Tests.{not-true, not-false, eq-eqb, ne-eqb, lt-ltb, le-ltb}
 use Rattle.octets.specs.Number.{byteAt}
 use Rattle.iso8211.specs.Record.{endOf}
-use Rattle.iso8211.specs.Field.{countAt, fieldAt, RecordIn}
+use Rattle.iso8211.specs.Field.{countAt, fieldAt}
+use Rattle.iso8211.specs.Premises.{RecordIn}
 use Rattle.iso8211.specs.File.{recordAt}
 use Rattle.iso8211.specs.declared.field.Field.{Field}
 use Rattle.iso8211.proofs.Promise.{fields-in, at-next, at-first}
 use Rattle.table.specs.Table.{kindOf}
-use Rattle.attributes.specs.Attributes.{Upto}
+use Rattle.attributes.specs.Premises.{Upto}
 use Rattle.attributes.proofs.StampLaws.{upto-zeros, upto-more}
-use Rattle.described.specs.Described.{describedOf, marksOf}
-use Rattle.described.specs.declared.marks.Described.{Described}
+use Rattle.declarations.specs.Described.{describedOf}
+use Rattle.declarations.specs.Premises.{marksOf}
+use Rattle.declarations.specs.declared.marks.Described.{Described}
 use Rattle.layout.specs.Layout.{layoutFault}
 use Rattle.layout.specs.Record.{contentAt}
 use Rattle.layout.proofs.Promise.{laid, laid-dsid, full-dssi, content-length}
-use Rattle.chart.specs.Value.{valueFault}
-use Rattle.chart.specs.Judged.{Full, RecordJudged}
-use Rattle.chart.specs.Read.{refusal, nextStage, isFeature, aallAt, nallAt, passedState, firstState, recordsFault, readFault, Passing}
-use Rattle.chart.specs.declared.read.Refusal.{Refusal}
+use Rattle.fieldvalue.specs.Value.{valueFault}
+use Rattle.fieldvalue.specs.Judged.{Full, RecordJudged}
+use Rattle.chart.specs.Read.{nextStage, isFeature, passedState, firstState, recordsFault, readFault}
+use Rattle.layout.specs.General.{aallAt, nallAt}
 use Rattle.chart.specs.declared.read.State.{State}
+use Rattle.answers.specs.Answer.{refusal}
+use Rattle.chart.specs.Before.{RecordPassed}
+use Rattle.answers.specs.declared.refusal.Refusal.{Refusal}
 
 -- ---- what is known behind a record
 -- is_feature and levels: field j as it is read
@@ -35,10 +40,11 @@ feature-is s at k f e g = rw (g, e)
 
 pub levels-are : (s : List ℕ) (at i a b : ℕ) (f : Field) → f ≡ fieldAt s at 2 → i ≡ f .start → a ≡ byteAt s (i + 1) → b ≡ byteAt s (i + 2) → (a ≡ aallAt s at) × (b ≡ nallAt s at)
 unfolding aallAt nallAt
-levels-are s at i a b f e g x y = (x ∙ ap (λ (k : ℕ). byteAt s (k + 1)) (g ∙ ap (λ (q : Field). q .start) e), y ∙ ap (λ (k : ℕ). byteAt s (k + 2)) (g ∙ ap (λ (q : Field). q .start) e))
+levels-are s at i a b f e g x y =
+    (x ∙ ap (λ (k : ℕ). byteAt s (k + 1)) (g ∙ ap (λ (q : Field). q .start) e), y ∙ ap (λ (k : ℕ). byteAt s (k + 2)) (g ∙ ap (λ (q : Field). q .start) e))
 
 -- DSSI lies in the file with its levels
-pub levels-room : {s : List ℕ} {at stage : ℕ} (f : Field) → Passing s at stage → stage ≡ 0 → f ≡ fieldAt s at 2 → f .start + 3 ≤ length s
+pub levels-room : {s : List ℕ} {at stage : ℕ} (f : Field) → RecordPassed s at stage → stage ≡ 0 → f ≡ fieldAt s at 2 → f .start + 3 ≤ length s
 levels-room {s} {at} {stage} f p z e =
     let d = p .dssi z in
     let three = d .0 in
@@ -75,22 +81,26 @@ records-layout : (m p : ℕ) (update : Bool) (marks s : List ℕ) (k at : ℕ) (
 unfolding recordsFault
 records-layout m p update marks s k at st e h = rw (e, ne-eqb _ _ h)
 
-records-value : (m p : ℕ) (update : Bool) (marks s : List ℕ) (k at : ℕ) (st : State) → m ≡ suc p → layoutFault update (st .stage) marks s at ≡ 0 → (valueFault update (st .aall) (st .nall) s at ≡ 0 → ⊥)
+records-value : (m p : ℕ) (update : Bool) (marks s : List ℕ) (k at : ℕ) (st : State) → m ≡ suc p → layoutFault update (st .stage) marks s at ≡ 0
+    → (valueFault update (st .aall) (st .nall) s at ≡ 0 → ⊥)
     → recordsFault m update marks s k at st ≡ refusal 6 k (valueFault update (st .aall) (st .nall) s at)
 unfolding recordsFault
 records-value m p update marks s k at st e h g = rw (e, eq-eqb _ _ h, ne-eqb _ _ g)
 
-records-next : (m p : ℕ) (update : Bool) (marks s : List ℕ) (k at : ℕ) (st : State) → m ≡ suc p → layoutFault update (st .stage) marks s at ≡ 0 → valueFault update (st .aall) (st .nall) s at ≡ 0
+records-next : (m p : ℕ) (update : Bool) (marks s : List ℕ) (k at : ℕ) (st : State) → m ≡ suc p → layoutFault update (st .stage) marks s at ≡ 0
+    → valueFault update (st .aall) (st .nall) s at ≡ 0
     → recordsFault m update marks s k at st ≡ recordsFault p update marks s (k + 1) (endOf s at) (passedState update s at st)
 unfolding recordsFault
 records-next m p update marks s k at st e h g = rw (e, eq-eqb _ _ h, eq-eqb _ _ g)
 
 module _ {update : Bool} {marks s : List ℕ} {n : ℕ} {t : List ℕ} {k at : ℕ} {st : State} (so : Reading update marks s n t k at st) (more : k < n) where
-  pub reading-layout : (l : ℕ) (r : Refusal) → l ≡ layoutFault update (st .stage) marks s at → (l ≡ 0 → ⊥) → r ≡ refusal 5 k l → r ≡ recordsFault (n - 1) update marks s 1 (recordAt s 1) firstState
+  pub reading-layout : (l : ℕ) (r : Refusal) → l ≡ layoutFault update (st .stage) marks s at → (l ≡ 0 → ⊥) → r ≡ refusal 5 k l → r ≡ recordsFault (n - 1) update marks s 1
+      (recordAt s 1) firstState
   reading-layout l r e h q =
       q ∙ ap (refusal 5 k) e ∙ sym (so .is ∙ records-layout (n - k) (n - (k + 1)) update marks s k at st (omega arith) (λ z. h (e ∙ z)))
 
-  module _ (l : ℕ) (laid-out : l ≡ layoutFault update (st .stage) marks s at) (none : l ≡ 0) {after : List ℕ} {v : ℕ} (judged : RecordJudged update (st .aall) (st .nall) s at t after v) where
+  module _ (l : ℕ) (laid-out : l ≡ layoutFault update (st .stage) marks s at) (none : l ≡ 0) {after : List ℕ} {v : ℕ}
+      (judged : RecordJudged update (st .aall) (st .nall) s at t after v) where
     pub reading-value : (r : Refusal) → (v ≡ 0 → ⊥) → r ≡ refusal 6 k v → r ≡ recordsFault (n - 1) update marks s 1 (recordAt s 1) firstState
     reading-value r h q =
         let e = judged .fault (so .upto) in
@@ -117,7 +127,7 @@ module _ {update : Bool} {marks s : List ℕ} {n : ℕ} {t : List ℕ} {k at : �
 pub full-of : (update : Bool) (stage : ℕ) (marks s : List ℕ) (at l : ℕ) → RecordIn s at → l ≡ layoutFault update stage marks s at → l ≡ 0 → Full s at
 full-of update stage marks s at l known e z = record { known = known; full = laid update stage marks s at known (sym e ∙ z) .full }
 
-pub passing-of : (update : Bool) (stage : ℕ) (marks s : List ℕ) (at l : ℕ) → RecordIn s at → l ≡ layoutFault update stage marks s at → l ≡ 0 → Passing s at stage
+pub passing-of : (update : Bool) (stage : ℕ) (marks s : List ℕ) (at l : ℕ) → RecordIn s at → l ≡ layoutFault update stage marks s at → l ≡ 0 → RecordPassed s at stage
 passing-of update stage marks s at l known e z =
     let d = laid update stage marks s at known (sym e ∙ z) in
     record {
@@ -130,7 +140,8 @@ passing-of update stage marks s at l known e z =
     }
 
 -- ---- read_fault
-pub read-described : (update : Bool) (s : List ℕ) (n : ℕ) (d : Described) (r : Refusal) → marksOf d ≡ describedOf s → not (d .good) ≡ true → r ≡ refusal 4 0 0 → r ≡ readFault update s n
+pub read-described : (update : Bool) (s : List ℕ) (n : ℕ) (d : Described) (r : Refusal) → marksOf d ≡ describedOf s → not (d .good) ≡ true → r ≡ refusal 4 0 0
+    → r ≡ readFault update s n
 unfolding readFault
 read-described update s n d r e h q =
     let good = not-true (d .good) h in

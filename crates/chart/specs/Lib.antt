@@ -1,4 +1,3 @@
 -- The notions of `chart`, in the order in which a reader should meet them.
-pub mod Value
-pub mod Judged
 pub mod Read
+pub mod Before

@@ -3,9 +3,10 @@ ghost use Prim.Native.Nat.{_+_, _-_, _≤_, _<_};
 ghost use mathlib.Core.Path.{_≡_};
 ghost use lib.ListN.{length, replicate};
 ghost use Rattle.iso8211.specs.File.{frameOf, recordAt};
-ghost use Rattle.chart.specs.Read.{refusal, Records, nextStage, isFeature, aallAt, nallAt, passedState, firstState, recordsFault, readFault, Passing};
-use crate::value::value_fault;
+ghost use Rattle.chart.specs.Read.{nextStage, isFeature, passedState, firstState, recordsFault, readFault};
+ghost use Rattle.layout.specs.General.{aallAt, nallAt};
 use described::described;
+use fieldvalue::value::value_fault;
 use iso8211::field::field_at;
 use iso8211::field::head_of;
 use iso8211::field::record_end;
@@ -13,13 +14,15 @@ use iso8211::file::Framed;
 use layout::layout_fault;
 use octets::number::wide;
 use table::kind_of;
-
-// A refusal: its code in document 01's table, the record, and the byte of the file; code 0: none.
-pub struct Refusal {
-    pub code: u32,
-    pub index: usize,
-    pub offset: usize,
-}
+use table::kinds;
+use table::offsets;
+ghost use Rattle.answers.specs.Codes.{mostBytes};
+ghost use Rattle.chart.specs.Before.{BeforeRecords, RecordPassed};
+use answers::Refusal;
+use answers::codes::DESCRIBED;
+use answers::codes::LAYOUT;
+use answers::codes::VALUE;
+use answers::refusal::refuse;
 
 // What is known between two records: which kind of record is due (0 that of DSID, 1 that of DSPM, 2 a
 // vector or a feature, 3 a feature), and the levels AALL and NALL.
@@ -27,16 +30,6 @@ pub struct State {
     pub stage: usize,
     pub aall: u32,
     pub nall: u32,
-}
-
-pub fn refuse(code: u32, index: usize, offset: usize) -> Refusal
-    ensures { λ r. ⌜ r ≡ refusal code index offset ⌝ }
-{
-    Refusal {
-        code,
-        index,
-        offset,
-    }
 }
 
 fn next_stage(update: bool, stage: usize, feature: bool) -> usize
@@ -55,30 +48,30 @@ fn next_stage(update: bool, stage: usize, feature: bool) -> usize
 }
 
 fn is_feature(s: &[u8], at: usize, stage: usize) -> bool
-    requires { ⌜ Passing (now s) at stage ⌝ }
+    requires { ⌜ RecordPassed (now s) at stage ⌝ }
     ensures { λ r. ⌜ r ≡ isFeature (now (s .entry)) at ⌝ }
 {
     let f = field_at(s, at, head_of(s, at), 1);
-    kind_of(f.tag) == 10
+    kind_of(f.tag) == kinds::FRID
 }
 
 // The levels of the record of DSID and DSSI.
 fn levels(s: &[u8], at: usize, stage: usize) -> State
-    requires { ⌜ Passing (now s) at stage × (stage ≡ 0) ⌝ }
+    requires { ⌜ RecordPassed (now s) at stage × (stage ≡ 0) ⌝ }
     ensures { λ r. ⌜ (r .aall ≡ aallAt (now (s .entry)) at) × (r .nall ≡ nallAt (now (s .entry)) at) ⌝ }
 {
     let f = field_at(s, at, head_of(s, at), 2);
     let i = f.start;
     State {
         stage: 0,
-        aall: wide(s[i + 1]),
-        nall: wide(s[i + 2]),
+        aall: wide(s[i + offsets::DSSI_AALL]),
+        nall: wide(s[i + offsets::DSSI_NALL]),
     }
 }
 
 // What is known behind the record at `at`.
 fn passed(s: &[u8], at: usize, update: bool, st: State) -> State
-    requires { ⌜ Passing (now s) at (st .stage) ⌝ }
+    requires { ⌜ RecordPassed (now s) at (st .stage) ⌝ }
     ensures { λ r. ⌜ r ≡ passedState update (now (s .entry)) at st ⌝ }
 {
     let stage = st.stage;
@@ -101,7 +94,7 @@ fn passed(s: &[u8], at: usize, update: bool, st: State) -> State
 // The first record from record 1 on that breaks Layout or Value. The table is for the labels of the
 // lists of attributes: 65,536 zeros.
 fn records_fault(s: &[u8], n: usize, marks: &[u8], update: bool, table: &mut [u32]) -> Refusal
-    requires { ⌜ Records (now s) n (now marks) (now table) ⌝ }
+    requires { ⌜ BeforeRecords (now s) n (now marks) (now table) ⌝ }
     ensures { λ r. ⌜ r ≡ recordsFault (n - 1) update (now (marks .entry)) (now (s .entry)) 1 (recordAt (now (s .entry)) 1) firstState ⌝ }
 {
     let mut st = State {
@@ -115,18 +108,18 @@ fn records_fault(s: &[u8], n: usize, marks: &[u8], update: bool, table: &mut [u3
         let stage = st.stage;
         let wrong = layout_fault(s, at, marks, update, stage);
         if wrong != 0 {
-            return refuse(5, k, wrong);
+            return refuse(LAYOUT, k, wrong);
         }
         let fault = value_fault(s, at, update, st.aall, st.nall, table);
         if fault != 0 {
-            return refuse(6, k, fault);
+            return refuse(VALUE, k, fault);
         }
         st = passed(s, at, update, st);
         at = record_end(s, at);
         k += 1;
     }
     if st.stage < 2 {
-        return refuse(5, k, s.len());
+        return refuse(LAYOUT, k, s.len());
     }
     refuse(0, 0, 0)
 }
@@ -140,12 +133,12 @@ fn blank() -> [u32; 65536]
 
 // The first thing in a framed file of n records that breaks Described, Layout or Value.
 pub fn read_fault(s: &[u8], n: usize, update: bool) -> Refusal
-    requires { ⌜ (frameOf (now s) ≡ Framed.Records n) × (length (now s) ≤ 5242880) ⌝ }
+    requires { ⌜ (frameOf (now s) ≡ Framed.Records n) × (length (now s) ≤ mostBytes) ⌝ }
     ensures { λ r. ⌜ r ≡ readFault update (now (s .entry)) n ⌝ }
 {
     let d = described(s);
     if !d.good {
-        return refuse(4, 0, 0);
+        return refuse(DESCRIBED, 0, 0);
     }
     let marks = d.marks;
     let mut table = blank();

@@ -9,12 +9,14 @@ use lib.ListN.{length}
 use lib.Dec.{leb, eqb}
 use borrow.Author.Tests.{lt-leb, le-leb, eqb-true, eq-eqb, not-true, not-false}
 use Rattle.octets.specs.Number.{byteAt}
-use Rattle.octets.specs.Digits.{isDigit, Number}
+use Rattle.octets.specs.Digits.{isDigit}
+use Rattle.octets.specs.Premises.{Number}
 use Rattle.octets.proofs.Tests.{told-no, told-yes}
 use Rattle.values.specs.Rule.{digitsWithin}
-use Rattle.dataset.specs.Dsid.{isCode, codesAt, updnDigits, updnGood, dsidEnds, DsidLaid, dsidLaid, Filled, dsnmEnd, edtnEnd, updnEnd, psdnEnd, predEnd, comtEnd}
+use Rattle.dataset.specs.Dsid.{isCode, codesAt, updnDigits, updnGood, dsidEnds, dsidLaid, dsnmEnd, edtnEnd, updnEnd, psdnEnd, predEnd, comtEnd}
+use Rattle.dataset.specs.Premises.{DsidLaid, Filled}
 use Rattle.dataset.specs.declared.Ends.{Ends}
-use Rattle.values.proofs.TextLaws.{end-from, end-within}
+use Rattle.headvalues.proofs.TextLaws.{end-from, end-within}
 
 -- ---- is_code, by the ranges of bytes
 pub code-low : (b : ℕ) → b < 48 → false ≡ isCode b
@@ -98,7 +100,15 @@ laid-dsid s h = eq-eqb (comtEnd s + 1) (length s) (h .full)
 pub ends-near : (s : List ℕ) (e : Ends) → e ≡ dsidEnds s → e .comt ≤ length s + 37
 unfolding dsidEnds
 ends-near s e is =
-    rw is (omega (arith, end-within s 7, end-within s (dsnmEnd s + 1), end-within s (edtnEnd s + 1), end-within s (updnEnd s + 22), end-within s (psdnEnd s + 1), end-within s (predEnd s + 4)))
+    rw is (omega (
+      arith,
+      end-within s 7,
+      end-within s (dsnmEnd s + 1),
+      end-within s (edtnEnd s + 1),
+      end-within s (updnEnd s + 22),
+      end-within s (psdnEnd s + 1),
+      end-within s (predEnd s + 4),
+    ))
 
 pub ends-laid : (s : List ℕ) (e : Ends) → e ≡ dsidEnds s → eqb (e .comt + 1) (length s) ≡ dsidLaid s
 unfolding dsidLaid dsidEnds

@@ -11,9 +11,10 @@ use Rattle.octets.specs.Digits.{numberAt}
 use Rattle.octets.proofs.Tests.{both, all3}
 use Rattle.values.specs.Rule.{within, digitsWithin}
 use Rattle.values.proofs.FaultLaws.{fault-none, first-none, fault-within, first-within}
-use Rattle.values.proofs.Promise.{within-told}
-use Rattle.dataset.specs.Date.{dateGood}
-use Rattle.dataset.specs.Dsid.{Filled, DsidLaid, dsidEnds, dsnmGood, edtnGood, updnDigits, updnGood, headFault, namesFault, issueFault, productFault, dsidOver, dsidFault}
+use Rattle.headvalues.proofs.Promise.{within-told}
+use Rattle.dates.specs.Date.{dateGood}
+use Rattle.dataset.specs.Dsid.{dsidEnds, dsnmGood, edtnGood, updnDigits, updnGood, headFault, namesFault, issueFault, productFault, dsidOver, dsidFault}
+use Rattle.dataset.specs.Premises.{Filled, DsidLaid}
 use Rattle.dataset.specs.declared.Ends.{Ends}
 
 -- ---- a fault stands in its field: its number is at most the field's length

@@ -1,22 +1,22 @@
 -- DSID: where its subfields stand, and their rules. Assumes nothing.
-use Prim.Native.Nat.{ℕ, zero, suc, _+_, _-_, _≤_, _<_}
+use Prim.Native.Nat.{ℕ, zero, suc, _+_, _-_}
 use mathlib.Core.Bool.{Bool, true, false, cond, not, _&&_, _||_}
 use mathlib.Core.List.{List}
-use mathlib.Core.Path.{_≡_}
 use lib.ListN.{length}
 use lib.Dec.{leb, eqb}
 use Rattle.octets.specs.Number.{byteAt}
 use Rattle.octets.specs.Digits.{isDigit, numberAt}
 use Rattle.values.specs.Fault.{faultAt, first}
-use Rattle.values.specs.Text.{textIn, textEnd}
-use Rattle.dataset.specs.Date.{dateGood}
+use Rattle.headvalues.specs.Text.{textIn, textEnd}
+use Rattle.dates.specs.Date.{dateGood}
 use Rattle.values.specs.Rule.{within, rcidGood, profileOf, digitsWithin}
 use Rattle.dataset.specs.declared.Ends.{Ends}
+use Rattle.table.specs.Offsets.{RCID, DSID-EXPP, DSID-INTU, DSID-DSNM}
 
 -- ---- where its six texts end
 -- "b11,b14,2b11,3A,2A(8),R(4),b11,2A,b11,b12,A": seven bytes, DSNM, EDTN, UPDN, 21 bytes, PSDN, PRED, three bytes, COMT
 abbrev pub dsnmEnd : List ℕ → ℕ
-dsnmEnd s = textEnd s 7
+dsnmEnd s = textEnd s DSID-DSNM
 
 abbrev pub edtnEnd : List ℕ → ℕ
 edtnEnd s = textEnd s (dsnmEnd s + 1)
@@ -36,20 +36,6 @@ comtEnd s = textEnd s (predEnd s + 4)
 unfoldable pub dsidEnds : List ℕ → Ends
 dsidEnds s =
     record { dsnm = dsnmEnd s; edtn = edtnEnd s; updn = updnEnd s; psdn = psdnEnd s; pred = predEnd s; comt = comtEnd s }
-
--- the texts end one after the other, with room for the bytes between, and the last end is the last byte of s
-pub record Filled (s : List ℕ) (e : Ends) : Type 0 where
-  pub names : 7 ≤ e .dsnm
-  pub edition : e .dsnm < e .edtn
-  pub number : e .edtn < e .updn
-  pub issue : e .updn + 22 ≤ e .psdn
-  pub product : e .psdn < e .pred
-  pub comment : e .pred + 4 ≤ e .comt
-  pub full : e .comt + 1 ≡ length s
-
--- the subfields of a DSID fill s
-abbrev pub DsidLaid : List ℕ → Type 0
-DsidLaid s = Filled s (dsidEnds s)
 
 -- the same as a test; that the texts end one after the other is so by their making
 unfoldable pub dsidLaid : List ℕ → Bool
@@ -72,7 +58,7 @@ extensionGood update n = cond update (leb n 999) (eqb n 0)
 -- "DSNM: two of A-Z 0-9, INTU (1 to 6) as digit, five of A-Z 0-9, ".", three digits"; it ends at e
 unfoldable pub dsnmGood : Bool → List ℕ → ℕ → Bool
 dsnmGood update s e =
-    eqb e 19 && (codesAt 2 s 7 && (eqb (byteAt s 9) (48 + byteAt s 6) && (codesAt 5 s 10 && (eqb (byteAt s 15) 46 && extensionGood update (numberAt s 16 3)))))
+    eqb e 19 && (codesAt 2 s DSID-DSNM && (eqb (byteAt s 9) (48 + byteAt s DSID-INTU) && (codesAt 5 s 10 && (eqb (byteAt s 15) 46 && extensionGood update (numberAt s 16 3)))))
 
 -- "EDTN one to four digits, 1 to 9,999"
 unfoldable pub edtnGood : List ℕ → ℕ → ℕ → Bool
@@ -104,14 +90,14 @@ predGood s i e = eqb e (i + 3) && (eqb (byteAt s i) 50 && (eqb (byteAt s (i + 1)
 unfoldable pub headFault : Bool → List ℕ → ℕ
 headFault update s =
     first (faultAt 0 (eqb (byteAt s 0) 10))
-    (first (faultAt 1 (rcidGood s 1))
-    (first (faultAt 5 (eqb (byteAt s 5) (profileOf update)))
-    (faultAt 6 (within 1 6 (byteAt s 6)))))
+    (first (faultAt RCID (rcidGood s RCID))
+    (first (faultAt DSID-EXPP (eqb (byteAt s DSID-EXPP) (profileOf update)))
+    (faultAt DSID-INTU (within 1 6 (byteAt s DSID-INTU)))))
 
 -- DSNM, EDTN, UPDN
 unfoldable pub namesFault : Bool → List ℕ → Ends → ℕ
 namesFault update s e =
-    first (faultAt 7 (dsnmGood update s (e .dsnm)))
+    first (faultAt DSID-DSNM (dsnmGood update s (e .dsnm)))
     (first (faultAt (e .dsnm + 1) (edtnGood s (e .dsnm + 1) (e .edtn)))
     (faultAt (e .edtn + 1) (updnGood update s (e .edtn + 1) (e .updn))))
 

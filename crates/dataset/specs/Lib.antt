@@ -1,3 +1,3 @@
 -- The notions of `dataset`, in the order in which a reader should meet them.
-pub mod Date
 pub mod Dsid
+pub mod Premises

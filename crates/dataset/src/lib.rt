@@ -4,21 +4,21 @@
 ghost use Prim.Native.Nat.{_+_, _≤_};
 ghost use mathlib.Core.Path.{_≡_};
 ghost use lib.ListN.{length};
-ghost use Rattle.dataset.specs.Dsid.{dsidEnds, Filled, DsidLaid, dsidLaid, isCode, codesAt, extensionGood, dsnmGood, updnGood};
-ghost use Rattle.dataset.specs.Dsid.{uadtGood, stedGood, predGood, headFault, namesFault, issueFault, productFault, dsidFault};
-use date::date_good;
+ghost use Rattle.dataset.specs.Dsid.{dsidEnds, dsidLaid, isCode, codesAt, extensionGood, dsnmGood, updnGood, uadtGood, stedGood, predGood, headFault, namesFault};
+ghost use Rattle.dataset.specs.Dsid.{issueFault, productFault, dsidFault};
+ghost use Rattle.dataset.specs.Premises.{Filled, DsidLaid};
+use dates::date::date_good;
+use headvalues::text::text_end;
+use headvalues::text::text_good_in;
 use octets::digits::get_digits;
 use octets::number::wide;
+use table::offsets;
 use values::fault::fault_at;
 use values::fault::first;
 use values::rule::digits_within;
 use values::rule::profile;
 use values::rule::rcid_good;
 use values::rule::within;
-use values::text::text_end;
-use values::text::text_good_in;
-
-pub mod date;
 
 // Where the six texts of a DSID end, each at its 1F.
 pub struct Ends {
@@ -33,7 +33,7 @@ pub struct Ends {
 pub fn dsid_ends(f: &[u8]) -> Ends
     ensures { λ r. ⌜ r ≡ dsidEnds (now (f .entry)) ⌝ }
 {
-    let dsnm = text_end(f, 7);
+    let dsnm = text_end(f, offsets::DSID_DSNM);
     let edtn = text_end(f, dsnm + 1);
     let updn = text_end(f, edtn + 1);
     let psdn = text_end(f, updn + 22);
@@ -98,14 +98,14 @@ fn extension_good(n: u32, update: bool) -> bool
     n == 0
 }
 
-// Whether the text from 7 up to `end` is a DSNM.
+// Whether the text up to `end` is a DSNM.
 fn dsnm_good(f: &[u8], end: usize, update: bool) -> bool
     requires { ⌜ 19 ≤ length (now f) ⌝ }
     ensures { λ r. ⌜ r ≡ dsnmGood update (now (f .entry)) end ⌝ }
 {
     let long = end == 19;
-    let producer = codes_at(f, 7, 2);
-    let usage = wide(f[9]) == 48 + wide(f[6]);
+    let producer = codes_at(f, offsets::DSID_DSNM, 2);
+    let usage = wide(f[9]) == 48 + wide(f[offsets::DSID_INTU]);
     let cell = codes_at(f, 10, 5);
     let dot = f[15] == 46;
     let extension = extension_good(get_digits(f, 16, 3), update);
@@ -178,9 +178,12 @@ fn head_fault(f: &[u8], update: bool) -> usize
     ensures { λ r. ⌜ r ≡ headFault update (now (f .entry)) ⌝ }
 {
     let rcnm = fault_at(0, f[0] == 10);
-    let rcid = fault_at(1, rcid_good(f, 1));
-    let expp = fault_at(5, f[5] == profile(update));
-    let intu = fault_at(6, within(wide(f[6]), 1, 6));
+    let rcid = fault_at(offsets::RCID, rcid_good(f, offsets::RCID));
+    let expp = fault_at(offsets::DSID_EXPP, f[offsets::DSID_EXPP] == profile(update));
+    let intu = fault_at(
+        offsets::DSID_INTU,
+        within(wide(f[offsets::DSID_INTU]), 1, 6),
+    );
     first(rcnm, first(rcid, first(expp, intu)))
 }
 
@@ -191,7 +194,7 @@ fn names_fault(f: &[u8], e: Ends, update: bool) -> usize
 {
     let edtn = e.dsnm + 1;
     let updn = e.edtn + 1;
-    let name = fault_at(7, dsnm_good(f, e.dsnm, update));
+    let name = fault_at(offsets::DSID_DSNM, dsnm_good(f, e.dsnm, update));
     let edition = fault_at(edtn, digits_within(f, edtn, e.edtn, 4, 1, 9999));
     let number = fault_at(updn, updn_good(f, updn, e.updn, update));
     first(name, first(edition, number))

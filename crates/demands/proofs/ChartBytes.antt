@@ -8,25 +8,28 @@ use Rattle.iso8211.specs.File.{recordAt}
 use Rattle.table.specs.Table.{rowOf}
 use Rattle.dataset.specs.Dsid.{updnEnd}
 use Rattle.layout.specs.Record.{contentAt}
-use Rattle.chart.specs.Value.{isAttributes}
+use Rattle.fieldvalue.specs.Value.{isAttributes}
 use Rattle.attributes.specs.Attributes.{labelOf, isRemoval}
 use Rattle.topology.proofs.BytesLaws.{AllBytes, entries-bytes}
 use Rattle.topology.proofs.BytesLaws.AllBytes.{none, more}
-use Rattle.objects.specs.Object.{Object, objectAt, listOf}
-use Rattle.header.specs.Dsid.{dsidOf}
-use Rattle.header.specs.Dsid.{revised}
-use Rattle.held.specs.Chart.{Chart, objectName, headerOf, objectsFrom, insertObject, heldOrder, chartOf}
+use Rattle.items.specs.Item.{listOf, itemName, Item, itemAt}
+use Rattle.header.specs.Dsid.{dsidOf, revised}
+use Rattle.names.specs.Names.{itemsFrom}
+use Rattle.names.specs.Held.{insertBy, orderBy, heldOrder, heldItems}
+use Rattle.held.specs.Chart.{Chart, headerOf, chartOf}
 use Rattle.edits.specs.Lists.{Edit, controlOf, listsEdited}
 use Rattle.merge.specs.Update.{obeyed, result}
 use Rattle.changes.specs.Change.{Amendment, editOf, amendmentsFrom, Change, changeOf}
 use Rattle.changes.specs.Updated.{updatedHeader, amended, byAmendment, updated}
 use Rattle.changes.specs.Rules.{All}
 use Rattle.changes.specs.Rules.All.{all-none, all-more}
-use Rattle.demands.specs.Cell.{Bytes, countIn, cellChart}
-use Rattle.demands.specs.Update.{changesIn, fileChange, updatedBy}
+use Rattle.demands.specs.Cell.{Bytes}
 use Rattle.demands.specs.ByteChart.{ByteList, ByteDsid, ByteObject, ByteChart, ByteChange}
 use Rattle.demands.proofs.AllLaws.{all-take, all-drop, all-cond, changes-all, edited-all, placed-all, without-all, changed-all}
 use Rattle.demands.proofs.HeldBytes.{byte-list}
+use Rattle.reader.specs.Reader.{countIn}
+use Rattle.loader.specs.Admit.{cellChart}
+use Rattle.loader.specs.Apply.{changesIn, fileChange, updatedBy}
 
 -- ---- a file of bytes
 module _ (s : List ℕ) (bytes : Bytes s) where
@@ -49,12 +52,12 @@ module _ (s : List ℕ) (bytes : Bytes s) where
   each-bytes none = all-none
   each-bytes (more {e = e} b rest) = all-more (byte-list e (record { small = b .low })) (each-bytes rest)
 
-  object-bytes : (at : ℕ) → ByteObject (objectAt s at)
+  object-bytes : (at : ℕ) → ByteObject (itemAt s at)
   unfolding listOf
   object-bytes at = record { lists = λ k. all-cond (rowOf k .list) (each-bytes (entries-bytes s at k (record { low = bytes .small }))) all-none }
 
-  objects-bytes : (n at : ℕ) → All ByteObject (objectsFrom n s at)
-  unfolding objectsFrom
+  objects-bytes : (n at : ℕ) → All ByteObject (itemsFrom n s at)
+  unfolding itemsFrom
   objects-bytes zero at = all-none
   objects-bytes (suc n) at = all-more (object-bytes at) (objects-bytes n (endOf s at))
 
@@ -64,22 +67,22 @@ module _ (s : List ℕ) (bytes : Bytes s) where
   amendments-bytes (suc n) at = all-more (object-bytes at) (amendments-bytes n (endOf s at))
 
 -- held order
-insert-bytes : (t : Object) {ts : List Object} → ByteObject t → All ByteObject ts → All ByteObject (insertObject t ts)
-unfolding insertObject
+insert-bytes : (t : Item) {ts : List Item} → ByteObject t → All ByteObject ts → All ByteObject (insertBy itemName t ts)
+unfolding insertBy
 insert-bytes t b all-none = all-more b all-none
-insert-bytes t b (all-more {e = u} h rest) = all-cond (leb (objectName t) (objectName u)) (all-more b (all-more h rest)) (all-more h (insert-bytes t b rest))
+insert-bytes t b (all-more {e = u} h rest) = all-cond (leb (itemName t) (itemName u)) (all-more b (all-more h rest)) (all-more h (insert-bytes t b rest))
 
-order-bytes : {ts : List Object} → All ByteObject ts → All ByteObject (heldOrder ts)
-unfolding heldOrder
+order-bytes : {ts : List Item} → All ByteObject ts → All ByteObject (heldOrder ts)
+unfolding orderBy
 order-bytes all-none = all-none
 order-bytes (all-more {e = t} h rest) = insert-bytes t h (order-bytes rest)
 
 pub cell-bytes : (cell : List ℕ) → Bytes cell → ByteChart (cellChart cell)
-unfolding chartOf headerOf
+unfolding chartOf headerOf heldItems
 cell-bytes cell bytes = record {
   dsid = dsid-bytes cell bytes (recordAt cell 1);
   dspm = content-bytes cell bytes (recordAt cell 2) 1;
-  objects = order-bytes (objects-bytes cell bytes (countIn cell - 3) (recordAt cell 3));
+  items = order-bytes (objects-bytes cell bytes (countIn cell - 3) (recordAt cell 3));
 }
 
 pub file-bytes : (file : List ℕ) → Bytes file → ByteChange (fileChange file)
@@ -91,17 +94,17 @@ edited-bytes : (u : Edit) (held : ℕ → List (List ℕ)) (k : ℕ) → All Byt
 unfolding listsEdited
 edited-bytes u held k new old = all-cond (isAttributes k) (changes-all labelOf isRemoval old new) (edited-all (controlOf u held k) old new)
 
-amended-bytes : (a : Amendment) → ByteObject (a .object) → (t : Object) → ByteObject t → ByteObject (amended a t)
+amended-bytes : (a : Amendment) → ByteObject (a .object) → (t : Item) → ByteObject t → ByteObject (amended a t)
 unfolding amended
 amended-bytes a b t h = record { lists = λ k. edited-bytes (editOf a) (t .lists) k (b .lists k) (h .lists k) }
 
-obeyed-bytes : (a : Amendment) {ts : List Object} → ByteObject (a .object) → All ByteObject ts → All ByteObject (obeyed byAmendment a ts)
+obeyed-bytes : (a : Amendment) {ts : List Item} → ByteObject (a .object) → All ByteObject ts → All ByteObject (obeyed byAmendment a ts)
 unfolding obeyed
 obeyed-bytes a b all =
-    all-cond (eqb (a .ruin) 1) (placed-all objectName (a .object) b all)
-    (all-cond (eqb (a .ruin) 2) (without-all objectName (objectName (a .object)) all) (changed-all objectName (objectName (a .object)) (amended a) (amended-bytes a b) all))
+    all-cond (eqb (a .ruin) 1) (placed-all itemName (a .object) b all)
+    (all-cond (eqb (a .ruin) 2) (without-all itemName (itemName (a .object)) all) (changed-all itemName (itemName (a .object)) (amended a) (amended-bytes a b) all))
 
-result-bytes : {ts : List Object} {us : List Amendment} → All ByteObject ts → All (λ (a : Amendment). ByteObject (a .object)) us → All ByteObject (result byAmendment ts us)
+result-bytes : {ts : List Item} {us : List Amendment} → All ByteObject ts → All (λ (a : Amendment). ByteObject (a .object)) us → All ByteObject (result byAmendment ts us)
 unfolding result
 result-bytes all all-none = all
 result-bytes all (all-more {e = a} b rest) = result-bytes (obeyed-bytes a b all) rest
@@ -111,7 +114,7 @@ unfolding updated updatedHeader revised
 change-bytes c u b v = record {
   dsid = record { named = b .dsid .named; applied = v .dsid .issued; issued = v .dsid .issued; rest = b .dsid .rest };
   dspm = b .dspm;
-  objects = result-bytes (b .objects) (v .amendments);
+  items = result-bytes (b .items) (v .amendments);
 }
 
 pub updated-bytes : (c : Chart) (file : List ℕ) → Bytes file → ByteChart c → ByteChart (updatedBy c file)

@@ -13,21 +13,22 @@ use Rattle.octets.proofs.DigitsLaws.{fewest-most}
 use Rattle.entries.specs.Rules.{allOf}
 use Rattle.table.specs.Text.{bytes}
 use Rattle.table.specs.Table.{rowOf, table, asNumber, tagOf, first, DSID, DSSI, DSPM, VRID, FRID, FOID}
-use Rattle.names.specs.declared.counts.Tally.{Tally}
+use Rattle.counted.specs.declared.counts.Tally.{Tally}
 use Rattle.records.specs.Pieces.{Piece}
-use Rattle.records.specs.Written.{tagBytes, pieceLength, bodyOf, rowsFor, longest, farthest, lengthSize, positionSize, rowBytes, rowsBytes}
-use Rattle.records.specs.Written.{baseFor, leaderOf, headOver, headBytes, recordBytes, sizeOf, recordsBytes, AllFit}
+use Rattle.records.specs.Written.{tagBytes, pieceLength, bodyOf, rowsFor, longest, farthest, lengthSize, positionSize, rowBytes, rowsBytes, baseFor, leaderOf, headOver}
+use Rattle.records.specs.Written.{headBytes, recordBytes, sizeOf, recordsBytes, AllFit}
 use Rattle.records.specs.Written as records
 use Rattle.records.specs.Written.AllFit.{fit-none, fit-more}
-use Rattle.objects.specs.Object.{Object, isFeature, piece, listPiece, listPieces, vectorKinds, featureKinds, vridBytes, fridBytes, vectorPieces, featurePieces, objectPieces}
-use Rattle.objects.proofs.ReadLaws.{allBelow, kinds-keep}
+use Rattle.items.specs.Item.{isFeature, Item}
+use Rattle.itemfields.specs.Fields.{piece, listPiece, listPieces, vectorKinds, featureKinds, vridBytes, fridBytes, vectorPieces, featurePieces, itemPieces}
+use Rattle.itemfields.proofs.ReadLaws.{allBelow, kinds-keep}
 use Rattle.header.specs.First.{firstRecord}
 use Rattle.header.specs.Literal.{firstBytes}
 use Rattle.header.specs.Dsid.{Dsid, shortest, dsidWith, dsidBytes}
 use Rattle.header.specs.Dssi.{featureCounts, vectorCounts, dssiBytes}
 use Rattle.header.proofs.FirstLaws.{first-literal}
 use Rattle.held.specs.Chart.{Chart}
-use Rattle.held.specs.Held.{tallyIn, dsidPieces, dspmPieces, objectsPieces, recordsOf, heldOf}
+use Rattle.held.specs.Held.{tallyIn, dsidPieces, dspmPieces, itemsPieces, recordsOf, heldOf}
 use Rattle.held.specs.Limits.{Fits}
 use Rattle.held.specs.Good.{GoodChart}
 use Rattle.changes.specs.Rules.{All}
@@ -148,11 +149,11 @@ unfolding listPieces
 lists-low ls all-none each = all-none
 lists-low ls (all-more {e = k} h hs) each = all-join (list-low k h (each k)) (lists-low ls hs each)
 
-vrid-low : (t : Object) → ByteList (vridBytes t)
+vrid-low : (t : Item) → ByteList (vridBytes t)
 unfolding vridBytes
 vrid-low t = all-join (bytes-low 1 (t .rcnm)) (all-join (bytes-low 4 (t .rcid)) (all-join (bytes-low 2 (t .version)) (byte 1 (omega arith) all-none)))
 
-frid-low : (t : Object) → ByteList (fridBytes t)
+frid-low : (t : Item) → ByteList (fridBytes t)
 unfolding fridBytes
 frid-low t =
     all-join (bytes-low 1 (t .rcnm))
@@ -167,8 +168,8 @@ vector-few = all-more (lit< tt) (all-more (lit< tt) (all-more (lit< tt) (all-mor
 feature-few : All (λ (k : ℕ). k < 19) featureKinds
 feature-few = all-more (lit< tt) (all-more (lit< tt) (all-more (lit< tt) (all-more (lit< tt) all-none)))
 
-object-low : (n : ℕ) (t : Object) → ByteObject t → All BytePiece (objectPieces n t)
-unfolding objectPieces vectorPieces featurePieces
+object-low : (n : ℕ) (t : Item) → ByteObject t → All BytePiece (itemPieces n t)
+unfolding itemPieces vectorPieces featurePieces
 object-low n t b = pick (isFeature (t .rcnm))
   where
     pick : (z : Bool) → All BytePiece (cond z (featurePieces n t) (vectorPieces n t))
@@ -182,8 +183,8 @@ object-low n t b = pick (isFeature (t .rcnm))
         (all-more (piece-low VRID (omega arith) (vrid-low t))
         (lists-low (t .lists) vector-few (b .lists)))
 
-objects-low : (n : ℕ) {ts : List Object} → All ByteObject ts → All (All BytePiece) (objectsPieces n ts)
-unfolding objectsPieces
+objects-low : (n : ℕ) {ts : List Item} → All ByteObject ts → All (All BytePiece) (itemsPieces n ts)
+unfolding itemsPieces
 objects-low n all-none = all-none
 objects-low n (all-more {e = t} b bs) = all-more (object-low n t b) (objects-low (n + 1) bs)
 
@@ -210,10 +211,10 @@ chart-low c g b =
     all-more
     (all-more (piece-low first (omega arith) (bytes-low 2 1))
     (all-more (piece-low DSID (omega arith) (dsid-low (c .header .dsid) (b .dsid)))
-    (all-more (piece-low DSSI (omega arith) (dssi-low (c .header .aall) (c .header .nall) (tallyIn (c .objects)) (g .aall-low) (g .nall-low))) all-none)))
+    (all-more (piece-low DSSI (omega arith) (dssi-low (c .header .aall) (c .header .nall) (tallyIn (c .items)) (g .aall-low) (g .nall-low))) all-none)))
     (all-more
     (all-more (piece-low first (omega arith) (bytes-low 2 2)) (all-more (piece-low DSPM (omega arith) (b .dspm)) all-none))
-    (objects-low 3 (b .objects)))
+    (objects-low 3 (b .items)))
 
 -- ---- the held form
 literal-low : ByteList firstBytes

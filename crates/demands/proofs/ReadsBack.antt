@@ -2,21 +2,30 @@
 -- Admit writes the same bytes for it. Assumes nothing.
 use Prim.Native.Nat.{ℕ, _*_, _≤_}
 use mathlib.Core.List.{List, _++_}
-use mathlib.Core.Path.{_≡_, ap, _∙_}
+use mathlib.Core.Path.{_≡_, refl, sym, ap, _∙_}
 use lib.ListN.{length, drop}
-use borrow.Author.Tests.{le-ltb, eq-eqb}
-use Rattle.chart.specs.Read.{fine}
-use Rattle.reader.specs.Reader.{answer, filed, firstRefusal, framedFront, frontOf, twiceRefusal, countsRefusal, cellFault, workAnswer}
+use borrow.Author.Tests.{le-ltb}
+use Rattle.answers.specs.Answer.{fine, answer, filed}
+use Rattle.answers.specs.First.{firstBy, firstAnswer}
+use Rattle.answers.specs.declared.refusal.Refusal.{Refusal}
+use Rattle.answers.specs.declared.answer.Answer.{Answer}
+use Rattle.answers.proofs.FirstLaws.{first-on, first-tested}
+use Rattle.answers.proofs.AnswerLaws.{filed-none, filed-tested}
+use Rattle.readboth.proofs.CallLaws.{work-on}
+use Rattle.topology.specs.Topology.{topologyFault}
+use Rattle.judging.proofs.JudgeLaws.{judge-opened}
+use Rattle.loader.proofs.AdmitLaws.{admit-opened}
+use Rattle.reader.specs.Reader.{framedFront, frontOf, recordsIn, countIn, twiceRefusal, countsRefusal, cellFault}
 use Rattle.reader.specs.declared.front.Front.the-variants.{Count}
 use Rattle.held.specs.Chart.{Chart, chartOf}
 use Rattle.held.specs.Held.{heldOf}
 use Rattle.held.specs.Limits.{recordCount}
 use Rattle.held.proofs.LimitsLaws.{fits-tested}
 use Rattle.held.proofs.ReadsBack.{HeldRead, reads-back}
-use Rattle.loader.specs.Judge.{cellVerdict, judgeChecked, judgeFront, judgeOf}
-use Rattle.loader.specs.Admit.{heldAnswer, written, admitChecked, checkedArea, admitFront, areaFront, admitOf, admitArea}
+use Rattle.judging.specs.Judge.{cellVerdict, judgeOf}
+use Rattle.loader.specs.Admit.{heldAnswer, written, areaBy, admitOf, cellChart, admitArea}
 use Rattle.demands.specs.Verdict.{Good}
-use Rattle.demands.specs.Cell.{recordsIn, countIn, Readable, cellChart}
+use Rattle.demands.specs.Cell.{Readable}
 use Rattle.demands.proofs.TopologyLaws.{held-topology}
 use Rattle.demands.proofs.SoundLaws.{sound-tested}
 
@@ -33,12 +42,14 @@ module _ (c : Chart) (good : Good c) where
   held-count = ap recordsIn held-opened
 
   held-fine : cellFault (heldOf c) (recordCount c) .code ≡ 0
-  unfolding cellFault twiceRefusal countsRefusal
+  unfolding cellFault twiceRefusal countsRefusal firstBy
   held-fine = rw (there .read, there .once, there .counted)
 
   held-verdict : cellVerdict (heldOf c) (recordCount c) .code ≡ 0
   unfolding cellVerdict
-  held-verdict = rw (eq-eqb (cellFault (heldOf c) (recordCount c) .code) 0 held-fine) (held-topology c (good .values) (good .limits) ∙ sound-tested c (good .sound))
+  held-verdict =
+      first-tested (λ (r : Refusal). r .code) (cellFault (heldOf c) (recordCount c)) (topologyFault (heldOf c) (recordCount c)) held-fine
+      (held-topology c (good .values) (good .limits) ∙ sound-tested c (good .sound))
 
   -- ---- it is readable, and means the chart
   pub held-readable : Readable (heldOf c)
@@ -48,25 +59,26 @@ module _ (c : Chart) (good : Good c) where
   held-back = ap (chartOf (heldOf c)) held-count ∙ there .back
 
   -- ---- Judge gives it 0
-  judged-checked : (w : ℕ) → 16 * recordCount c ≤ w → judgeChecked (heldOf c) w (recordCount c) ≡ answer 0 0 0 0 0
-  unfolding judgeChecked workAnswer filed
-  judged-checked w room = rw (le-ltb w (16 * recordCount c) room, eq-eqb (cellVerdict (heldOf c) (recordCount c) .code) 0 held-verdict)
-
   pub held-judged : (w : ℕ) → 16 * recordCount c ≤ w → judgeOf (heldOf c) w ≡ answer 0 0 0 0 0
-  unfolding judgeOf judgeFront
-  held-judged w room = rw held-opened (judged-checked w room)
+  held-judged w room =
+      let verdict = cellVerdict (heldOf c) (recordCount c) in
+      judge-opened (heldOf c) (recordCount c) held-opened w ∙ work-on w (recordCount c) (filed 1 verdict) room ∙ sym (filed-none 1 verdict (answer 0 0 0 0 0) held-verdict refl)
 
   -- ---- Admit writes the same bytes
   module _ (w : ℕ) (out : List ℕ) (room : 16 * recordCount c ≤ w) (long : length (heldOf c) ≤ length out) where
-    admitted-checked : admitChecked (heldOf c) w (length out) (recordCount c) ≡ answer 0 0 0 (length (heldOf c)) 0
-    unfolding admitChecked workAnswer firstRefusal heldAnswer
-    admitted-checked =
-        rw (le-ltb w (16 * recordCount c) room, eq-eqb (cellVerdict (heldOf c) (recordCount c) .code) 0 held-verdict, there .back, fits-tested c (good .limits), le-ltb (length out) (length (heldOf c)) long)
+    held-answered : heldAnswer (length out) (chartOf (heldOf c) (recordCount c)) ≡ answer 0 0 0 (length (heldOf c)) 0
+    unfolding heldAnswer
+    held-answered = rw (there .back, fits-tested c (good .limits), le-ltb (length out) (length (heldOf c)) long)
 
     pub held-admitted : admitOf (heldOf c) w (length out) ≡ answer 0 0 0 (length (heldOf c)) 0
-    unfolding admitOf admitFront
-    held-admitted = rw held-opened admitted-checked
+    held-admitted =
+        let verdict = cellVerdict (heldOf c) (recordCount c) in
+        let last = heldAnswer (length out) (chartOf (heldOf c) (recordCount c)) in
+        admit-opened (heldOf c) (recordCount c) held-opened w (length out)
+        ∙ work-on w (recordCount c) (firstAnswer (filed 1 verdict) last) room
+        ∙ first-on (λ (x : Answer). x .code) (filed 1 verdict) last (filed-tested 1 verdict held-verdict)
+        ∙ held-answered
 
     pub held-again : admitArea (heldOf c) w out ≡ heldOf c ++ drop (length (heldOf c)) out
-    unfolding admitArea areaFront checkedArea written
-    held-again = rw (held-opened, admitted-checked, there .back)
+    unfolding admitArea areaBy written
+    held-again = rw (held-admitted, held-back)

@@ -4,7 +4,8 @@
 use Prim.Native.Nat.{ℕ, _+_}
 use mathlib.Core.List.{List}
 use mathlib.Core.Path.{_≡_}
-use Rattle.held.specs.Chart.{Chart, objectName}
+use Rattle.items.specs.Item.{itemName}
+use Rattle.held.specs.Chart.{Chart}
 use Rattle.held.specs.Good.{GoodChart}
 use Rattle.merge.specs.Update.{unnamed}
 use Rattle.merge.specs.Updated.{Differs}
@@ -22,7 +23,8 @@ use Rattle.changes.proofs.FollowLaws.{follows-tested}
 use Rattle.changes.proofs.KeptLaws as kept
 use Rattle.demands.specs.Verdict.{Good}
 use Rattle.demands.specs.Cell.{Bytes}
-use Rattle.demands.specs.Update.{fileChange, updatedBy, Allowed}
+use Rattle.loader.specs.Apply.{fileChange, updatedBy}
+use Rattle.demands.specs.Update.{Allowed}
 use Rattle.demands.proofs.FileLaws.{change-good}
 
 -- ---- `updated-good`
@@ -49,19 +51,19 @@ updated-once c file a =
     record { name = rw (h .name); edition = h .edition; number = h .number; next = follow.updated-next c u e; not-again = follow.followed-once c u e }
 
 -- ---- `named-done`, `unnamed-kept`
-pub named-done : (c : Chart) (file : List ℕ) → Bytes file → Allowed c file → All (Done (c .objects) (updatedBy c file .objects)) (fileChange file .amendments)
+pub named-done : (c : Chart) (file : List ℕ) → Bytes file → Allowed c file → All (Done (c .items) (updatedBy c file .items)) (fileChange file .amendments)
 named-done c file bytes a = kept.named-done c (change-good file bytes (a .reads)) (acceptable-tested (a .rules))
 
 -- the objects that no record of the file names, in their order; there is nothing else that none names
 pub unnamed-kept : (c : Chart) (file : List ℕ)
-    → unnamed byAmendment (fileChange file .amendments) (updatedBy c file .objects) ≡ unnamed byAmendment (fileChange file .amendments) (c .objects)
+    → unnamed byAmendment (fileChange file .amendments) (updatedBy c file .items) ≡ unnamed byAmendment (fileChange file .amendments) (c .items)
 unnamed-kept c file = kept.unnamed-kept c (fileChange file)
 
 -- what is held under a name that no record of the file has
-all-differ : (n : ℕ) {us : List Amendment} → All (λ (a : Amendment). n ≡ objectName (a .object) → ⊥) us → Differs (λ (a : Amendment). objectName (a .object)) n us
+all-differ : (n : ℕ) {us : List Amendment} → All (λ (a : Amendment). n ≡ itemName (a .object) → ⊥) us → Differs (λ (a : Amendment). itemName (a .object)) n us
 all-differ n all-none = diff-none
 all-differ n (all-more h rest) = diff-more h (all-differ n rest)
 
-pub other-kept : (c : Chart) (file : List ℕ) (n : ℕ) → All (λ (a : Amendment). n ≡ objectName (a .object) → ⊥) (fileChange file .amendments)
-    → heldBy (updatedBy c file .objects) n ≡ heldBy (c .objects) n
+pub other-kept : (c : Chart) (file : List ℕ) (n : ℕ) → All (λ (a : Amendment). n ≡ itemName (a .object) → ⊥) (fileChange file .amendments)
+    → heldBy (updatedBy c file .items) n ≡ heldBy (c .items) n
 other-kept c file n others = kept.other-kept c (fileChange file) n (all-differ n others)

@@ -5,9 +5,10 @@ use mathlib.Core.List.{List}
 use mathlib.Core.Path.{_≡_}
 use Rattle.held.specs.Chart.{Chart}
 use Rattle.held.specs.Held.{heldOf}
-use Rattle.loader.specs.Admit.{admitOf}
-use Rattle.demands.specs.Cell.{Bytes, Readable, cellChart, Room}
-use Rattle.demands.specs.Update.{updatedBy, Allowed}
+use Rattle.loader.specs.Admit.{admitOf, cellChart}
+use Rattle.demands.specs.Cell.{Bytes, Readable, Room}
+use Rattle.loader.specs.Apply.{updatedBy}
+use Rattle.demands.specs.Update.{Allowed}
 use Rattle.demands.specs.ByteChart.{Whole}
 use Rattle.demands.proofs.HeldBytes.{held-bytes}
 use Rattle.demands.proofs.ChartBytes.{cell-bytes, updated-bytes}

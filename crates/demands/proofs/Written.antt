@@ -6,13 +6,13 @@ use mathlib.Core.List.{List}
 use mathlib.Core.Path.{_≡_, ap, ap₂, _∙_}
 use lib.ListN.{length, take, drop}
 use lib.Seq.{take-append-seam}
-use Rattle.reader.specs.declared.answer.Answer.{Answer}
+use Rattle.answers.specs.declared.answer.Answer.{Answer}
 use Rattle.held.specs.Chart.{Chart}
 use Rattle.held.specs.Held.{heldOf}
-use Rattle.loader.specs.Admit.{admitOf}
-use Rattle.loader.specs.Apply.{applyOf}
-use Rattle.demands.specs.Cell.{Bytes, cellChart}
-use Rattle.demands.specs.Update.{updatedBy, Allowed}
+use Rattle.loader.specs.Admit.{admitOf, cellChart}
+use Rattle.loader.specs.Apply.{applyOf, updatedBy}
+use Rattle.demands.specs.Cell.{Bytes}
+use Rattle.demands.specs.Update.{Allowed}
 use Rattle.demands.specs.Verdict.{Good}
 use Rattle.demands.specs.Written.{admittedBytes, appliedBytes, ReadsAs, Applied}
 use Rattle.demands.proofs.ReadsBack.{held-readable, held-back}

@@ -2,7 +2,7 @@
 -- to say that what is written is a file again. The statements about the calls don't speak of it, so nothing here need be believed. Assumes nothing.
 use Prim.Native.Nat.{ℕ, _<_}
 use mathlib.Core.List.{List}
-use Rattle.objects.specs.Object.{Object}
+use Rattle.items.specs.Item.{Item}
 use Rattle.header.specs.Dsid.{Dsid}
 use Rattle.held.specs.Chart.{Chart}
 use Rattle.changes.specs.Change.{Amendment, Change}
@@ -20,13 +20,13 @@ pub record ByteDsid (d : Dsid) : Type 0 where
   pub rest : ByteList (d .rest)
 
 -- the entries of each kind of list
-pub record ByteObject (t : Object) : Type 0 where
+pub record ByteObject (t : Item) : Type 0 where
   pub lists : (k : ℕ) → All ByteList (t .lists k)
 
 pub record ByteChart (c : Chart) : Type 0 where
   pub dsid : ByteDsid (c .header .dsid)
   pub dspm : ByteList (c .header .dspm)
-  pub objects : All ByteObject (c .objects)
+  pub items : All ByteObject (c .items)
 
 pub record ByteChange (u : Change) : Type 0 where
   pub dsid : ByteDsid (u .dsid)

@@ -14,7 +14,7 @@ use Rattle.octets.proofs.Cases.{true-or-false, eq-or-ne}
 use borrow.Author.Tests.{leb-true}
 use Rattle.iso8211.specs.Field.{countAt, fieldAt}
 use Rattle.table.specs.Table.{kindOf, first}
-use Rattle.described.specs.Described.{fieldBytes, describes, none, describedFrom, describedOf}
+use Rattle.declarations.specs.Described.{fieldBytes, describes, none, describedFrom, describedOf}
 
 -- ---- its length
 from-length : (n : ℕ) (s : List ℕ) (j : ℕ) (marks : List ℕ) → length marks ≡ 20

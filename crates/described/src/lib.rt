@@ -1,22 +1,22 @@
-// Document 01's rule of record 0. It takes records and fields from `iso8211` and the expected labels
-// and formats from `table`, and promises which kinds of fields a file declares, each as the table has
-// it, or that the rule is broken.
+// Document 01's rule of record 0: `described` says which kinds of fields a file declares, each as the table
+// has it, or that the rule is broken. It takes records and fields from `iso8211`, and each field against
+// the table from `declarations`.
 ghost use mathlib.Core.Path.{_≡_};
 ghost use Prim.Native.Nat.{_-_};
 ghost use lib.ListN.{length};
-ghost use Rattle.iso8211.specs.Field.{countAt, HeadOf, RecordIn};
-ghost use Rattle.described.specs.Described.{describedFrom, describedOf, marksOf, none};
-use crate::field::describes_at;
-use crate::marks::Described;
-use crate::marks::refused;
+ghost use Rattle.iso8211.specs.Field.{countAt};
+ghost use Rattle.iso8211.specs.Premises.{HeadOf, RecordIn};
+ghost use Rattle.declarations.specs.Described.{describedFrom, describedOf, none};
+ghost use Rattle.declarations.specs.Premises.{marksOf};
+use declarations::field::describes_at;
+use declarations::marks::Described;
+use declarations::marks::refused;
 use iso8211::field::Head;
 use iso8211::field::field_at;
 use iso8211::field::head_of;
 use table::kind_of;
-
-pub mod field;
-pub mod marks;
-pub mod texts;
+use table::kinds;
+use table::tags;
 
 // The fields behind 0000 and 0001: tags of the table, each at most once and as the table has it.
 fn rest(s: &[u8], head: Head) -> Described
@@ -25,12 +25,12 @@ fn rest(s: &[u8], head: Head) -> Described
 {
     let count = head.count;
     let mut marks = [0u8; 20];
-    marks[18] = 1;
+    marks[kinds::FIRST] = 1;
     let mut j: usize = 2;
     while j < count {
         let next = field_at(s, 0, head, j);
         let k = kind_of(next.tag);
-        if 18 <= k {
+        if kinds::FIRST <= k {
             return refused();
         }
         if marks[k] != 0 {
@@ -55,14 +55,14 @@ pub fn described(s: &[u8]) -> Described
         return refused();
     }
     let zero = field_at(s, 0, head, 0);
-    if zero.tag != 808464432 {
+    if zero.tag != tags::ZERO {
         return refused();
     }
     let one = field_at(s, 0, head, 1);
-    if one.tag != 808464433 {
+    if one.tag != tags::FIRST {
         return refused();
     }
-    if !describes_at(s, one, 18) {
+    if !describes_at(s, one, kinds::FIRST) {
         return refused();
     }
     rest(s, head)

@@ -14,7 +14,8 @@ use Rattle.entries.specs.declared.Shape.{Shape}
 use Rattle.entries.specs.Entries.{Entry, Each}
 use Rattle.entries.specs.Entries.Each.{each-none, each-more}
 use Rattle.entries.specs.Rules.{allOf}
-use Rattle.edits.specs.AttributeEdit.{named, change, changes, apart, those}
+use Rattle.edits.specs.AttributeEdit.{named, change, changes}
+use Rattle.edits.specs.OnePass.{apart, those}
 
 module _ {E : Type 0} (label : E → ℕ) (removes : E → Bool) where
   -- ---- labels

@@ -10,7 +10,7 @@ use lib.ListN.{length}
 use borrow.Author.Tests.{eqb-true}
 use Rattle.octets.proofs.Cases.{true-or-false}
 use Rattle.table.specs.Table.{SG2D, SG3D}
-use Rattle.chart.specs.Value.{isAttributes}
+use Rattle.fieldvalue.specs.Value.{isAttributes}
 use Rattle.edits.specs.Lists.{Edit, listAllowed, listEdited, isNone, coordinates, controlOf, listsEdited, allowedAt}
 
 empty-length : {E : Type 0} (l : List E) → length l ≡ 0 → l ≡ []

@@ -10,11 +10,12 @@ use borrow.Author.Tests.{eq-eqb, ne-eqb, not-true}
 use Rattle.octets.proofs.Tests.{both}
 use Rattle.entries.specs.Rules.{allOf}
 use Rattle.words.specs.Order.{isIn}
-use Rattle.values.specs.Text.{textGood}
+use Rattle.headvalues.specs.Text.{textGood}
 use Rattle.attributes.specs.Attributes.{labelOf, isRemoval, valueGood, rindGood, commentOf}
-use Rattle.objects.specs.Views.{attributesGood, pointersGood}
+use Rattle.itemfields.specs.Views.{attributesGood, pointersGood}
 use Rattle.edits.specs.Control.{edited}
-use Rattle.edits.specs.AttributeEdit.{named, changes, apart}
+use Rattle.edits.specs.AttributeEdit.{named, changes}
+use Rattle.edits.specs.OnePass.{apart}
 use Rattle.edits.proofs.ControlLaws.{edited-all}
 use Rattle.edits.proofs.AttributeLaws.{changes-apart, changes-all}
 

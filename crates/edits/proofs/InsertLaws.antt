@@ -10,10 +10,11 @@ use Rattle.octets.proofs.Tests.{both}
 use Rattle.entries.specs.Rules.{allOf}
 use Rattle.words.specs.Order.{isIn}
 use Rattle.table.specs.Table.{FFPT}
-use Rattle.chart.specs.Value.{isAttributes, isHigh}
-use Rattle.objects.specs.Views.{attributesGood, pointersGood, listGood}
-use Rattle.objects.specs.Good.{Lists}
-use Rattle.edits.specs.Lists.{Edit, Brought}
+use Rattle.fieldvalue.specs.Value.{isAttributes, isHigh}
+use Rattle.itemfields.specs.Views.{attributesGood, pointersGood, listGood}
+use Rattle.itemfields.specs.Good.{Lists}
+use Rattle.edits.specs.Lists.{Edit}
+use Rattle.edits.specs.Premises.{Brought}
 use Rattle.edits.specs.InsertDelete.{noControl, plainAt, insertAllowed}
 use Rattle.edits.proofs.GoodLaws.{plain-good}
 use Rattle.edits.proofs.ListsLaws.{all-in}

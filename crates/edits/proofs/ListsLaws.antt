@@ -18,13 +18,14 @@ use Rattle.entries.specs.Rules.{allOf}
 use Rattle.words.specs.Order.{isIn}
 use Rattle.table.specs.Table.{VRPT, FFPT, FSPT}
 use Rattle.attributes.specs.Attributes.{labelOf, isRemoval}
-use Rattle.chart.specs.Value.{isAttributes, isHigh}
-use Rattle.objects.specs.Views.{pointersGood, listGood}
-use Rattle.objects.specs.Good.{Lists}
+use Rattle.fieldvalue.specs.Value.{isAttributes, isHigh}
+use Rattle.itemfields.specs.Views.{pointersGood, listGood}
+use Rattle.itemfields.specs.Good.{Lists}
 use Rattle.edits.specs.Control.{Control, allowed, editedBy}
-use Rattle.edits.specs.AttributeEdit.{changes, changesFind, apart}
-use Rattle.edits.specs.OnePass.{onePass, findable}
-use Rattle.edits.specs.Lists.{Edit, listAllowed, listEdited, coordinates, controlOf, listsEdited, allowedAt, listsAllowed, Brought}
+use Rattle.edits.specs.AttributeEdit.{changes, changesFind}
+use Rattle.edits.specs.OnePass.{apart, onePass, findable}
+use Rattle.edits.specs.Lists.{Edit, listAllowed, listEdited, coordinates, controlOf, listsEdited, allowedAt, listsAllowed}
+use Rattle.edits.specs.Premises.{Brought}
 use Rattle.edits.proofs.ControlLaws.{edited-each, edited-by-none}
 use Rattle.edits.proofs.AttributeLaws.{changes-each}
 use Rattle.edits.proofs.GoodLaws.{good-apart, changes-good, edited-pointers}

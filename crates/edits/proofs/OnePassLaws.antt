@@ -9,8 +9,8 @@ use lib.Dec.{eqb}
 use borrow.Author.Tests.{eq-eqb, ne-eqb, eqb-true, eqb-false, not-true}
 use Rattle.octets.proofs.Cases.{true-or-false}
 use Rattle.octets.proofs.Tests.{both}
-use Rattle.edits.specs.AttributeEdit.{named, change, finds, changes, changesFind, apart}
-use Rattle.edits.specs.OnePass.{instead, worked, fresh, onePass, findable}
+use Rattle.edits.specs.AttributeEdit.{named, change, finds, changes, changesFind}
+use Rattle.edits.specs.OnePass.{apart, instead, worked, fresh, onePass, findable}
 use Rattle.edits.proofs.AttributeLaws.{named-change, apart-change}
 
 neither : (a b : Bool) → (a || b) ≡ false → (a ≡ false) × (b ≡ false)

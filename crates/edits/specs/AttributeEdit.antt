@@ -1,7 +1,7 @@
 -- The edit of a list of attributes, one change after the other. Over any type of attributes that have a label (ATTL) and may be a
 -- mark of removal (the value 7F). Assumes nothing.
 use Prim.Native.Nat.{ℕ}
-use mathlib.Core.Bool.{Bool, true, false, not, cond, _&&_, _||_}
+use mathlib.Core.Bool.{Bool, true, false, cond, _&&_, _||_}
 use mathlib.Core.List.{List, [], _∷_}
 use lib.Dec.{eqb}
 
@@ -27,13 +27,3 @@ changes label removes held (a ∷ more) = changes label removes (change label re
 unfoldable pub changesFind : {E : Type 0} → (E → ℕ) → (E → Bool) → List E → List E → Bool
 changesFind label removes held [] = true
 changesFind label removes held (a ∷ more) = finds label removes a held && changesFind label removes (change label removes a held) more
-
--- "No ATTL twice"
-unfoldable pub apart : {E : Type 0} → (E → ℕ) → List E → Bool
-apart label [] = true
-apart label (e ∷ es) = not (named label (label e) es) && apart label es
-
--- those whose labels are such
-unfoldable pub those : {E : Type 0} → (E → ℕ) → (ℕ → Bool) → List E → List E
-those label such [] = []
-those label such (e ∷ es) = cond (such (label e)) (e ∷ those label such es) (those label such es)

@@ -10,8 +10,8 @@ use Rattle.octets.specs.Number.{numAt}
 use Rattle.entries.specs.Rules.{allOf}
 use Rattle.table.specs.Table.{ATTV, SG2D, SG3D}
 use Rattle.attributes.specs.Attributes.{labelOf, isRemoval}
-use Rattle.chart.specs.Value.{isAttributes}
-use Rattle.objects.specs.Object.{vectorKinds}
+use Rattle.fieldvalue.specs.Value.{isAttributes}
+use Rattle.itemfields.specs.Fields.{vectorKinds}
 use Rattle.edits.specs.Control.{Control, gone, come, allowed, edited, editedBy}
 use Rattle.edits.specs.AttributeEdit.{named, change, finds, changes, changesFind}
 use Rattle.edits.specs.OnePass.{instead, worked, fresh, onePass}

@@ -5,7 +5,7 @@ use mathlib.Core.List.{List}
 use mathlib.Core.Option.{Option, none, some}
 use Rattle.entries.specs.Rules.{allOf}
 use Rattle.attributes.specs.Attributes.{isRemoval}
-use Rattle.chart.specs.Value.{isAttributes}
+use Rattle.fieldvalue.specs.Value.{isAttributes}
 use Rattle.edits.specs.Control.{Control}
 use Rattle.edits.specs.Lists.{Edit, isNone}
 

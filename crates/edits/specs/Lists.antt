@@ -3,17 +3,12 @@ use Prim.Native.Nat.{ℕ}
 use mathlib.Core.Bool.{Bool, true, false, cond, _||_}
 use mathlib.Core.List.{List, [], _∷_}
 use mathlib.Core.Option.{Option, none, some}
-use mathlib.Core.Path.{_≡_}
 use lib.ListN.{length}
 use lib.Dec.{eqb}
-use Rattle.entries.specs.Entries.{Each}
 use Rattle.entries.specs.Rules.{allOf}
-use Rattle.words.specs.Order.{isIn}
 use Rattle.table.specs.Table.{VRPT, SG2D, SG3D, FFPT, FSPT}
 use Rattle.attributes.specs.Attributes.{labelOf, isRemoval}
-use Rattle.layout.specs.Layout.{shapeOf}
-use Rattle.chart.specs.Value.{isAttributes}
-use Rattle.objects.specs.Views.{listGood}
+use Rattle.fieldvalue.specs.Value.{isAttributes}
 use Rattle.edits.specs.Control.{Control, allowed, editedBy}
 use Rattle.edits.specs.AttributeEdit.{changes, changesFind}
 
@@ -58,9 +53,3 @@ allowedAt u held k =
 -- else "edit rule broken", code 16: in the lists of a vector (`vectorKinds`) or of a feature (`featureKinds`)
 unfoldable pub listsAllowed : List ℕ → Edit → (ℕ → List (List ℕ)) → Bool
 listsAllowed kinds u held = allOf (allowedAt u held) kinds
-
--- what is known of the lists that a readable update brings: `Lists`, but that a value may be 7F
-pub record Brought (aall nall : ℕ) (kinds : List ℕ) (ls : ℕ → List (List ℕ)) : Type 0 where
-  pub each : (k : ℕ) → Each (shapeOf k) (ls k)
-  pub only : (k : ℕ) → isIn k kinds ≡ false → ls k ≡ []
-  pub good : (k : ℕ) → listGood true aall nall k (ls k) ≡ true

@@ -1,7 +1,8 @@
--- The edit of a list of attributes in one pass, as it is written: each held attribute in its place, kept, replaced or gone; then those
--- that are new, in the update's order. Where no label comes twice this is one change after the other (`one-pass`). Assumes nothing.
+-- The edit of a list of attributes in one pass, as it is written: each held attribute in its place, kept, replaced or gone; then those that are new,
+-- in the update's order. Where no label comes twice this is one change after the other (`one-pass`). It serves the proofs, and nothing here need be
+-- believed. Assumes nothing.
 use Prim.Native.Nat.{ℕ}
-use mathlib.Core.Bool.{Bool, true, cond, _&&_}
+use mathlib.Core.Bool.{Bool, true, cond, _&&_, not}
 use mathlib.Core.List.{List, [], _∷_, _++_}
 use lib.Dec.{eqb}
 use Rattle.edits.specs.AttributeEdit.{named, finds}
@@ -27,3 +28,13 @@ onePass label removes held brought = worked label removes held brought ++ fresh 
 unfoldable pub findable : {E : Type 0} → (E → ℕ) → (E → Bool) → List E → List E → Bool
 findable label removes held [] = true
 findable label removes held (a ∷ more) = finds label removes a held && findable label removes held more
+
+-- "No ATTL twice"
+unfoldable pub apart : {E : Type 0} → (E → ℕ) → List E → Bool
+apart label [] = true
+apart label (e ∷ es) = not (named label (label e) es) && apart label es
+
+-- those whose labels are such
+unfoldable pub those : {E : Type 0} → (E → ℕ) → (ℕ → Bool) → List E → List E
+those label such [] = []
+those label such (e ∷ es) = cond (such (label e)) (e ∷ those label such es) (those label such es)

@@ -14,7 +14,8 @@ use borrow.Author.Tests.{le-leb, lt-leb, leb-true, eq-eqb, ne-eqb, eqb-true}
 use Rattle.octets.proofs.Tests.{both}
 use Rattle.entries.specs.declared.Shape.{Shape}
 use Rattle.entries.specs.declared.Extent.{Extent}
-use Rattle.entries.specs.Entries.{entryLen, entriesFrom, entriesOf, Whole, Each, each-none, each-more, extentOf, wholeGood}
+use Rattle.entries.specs.Entries.{entryLen, entriesFrom, entriesOf, Each, each-none, each-more, extentOf, wholeGood}
+use Rattle.entries.specs.Premises.{Whole}
 use Rattle.entries.proofs.EntryLaws.{entry-within, entry-found, entry-taken}
 
 -- ---- joined lists

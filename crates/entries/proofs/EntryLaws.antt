@@ -9,7 +9,8 @@ use lib.Seq.{length-take-le, drop-drop, drop-append-le}
 use borrow.Author.Tests.{lt-ltb, le-ltb, eq-eqb, ne-eqb}
 use Rattle.octets.proofs.Cases.{le-or-lt, eq-or-ne}
 use Rattle.entries.specs.declared.Shape.{Shape}
-use Rattle.entries.specs.Entries.{textLen, entryLen, Sound, Entry}
+use Rattle.entries.specs.Entries.{textLen, entryLen, Entry}
+use Rattle.entries.specs.Premises.{Sound}
 use Rattle.entries.proofs.TextLaws.{text-within, text-least, text-more, text-front}
 
 -- ---- its three equations; nothing after them opens entryLen

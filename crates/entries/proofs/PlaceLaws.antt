@@ -11,7 +11,8 @@ use native.Mathlib.Omega.{arith}
 use lib.ListN.{length, take, drop, getD, length-append, length-drop, take-append-drop}
 use lib.Seq.{take-suc, length-take-le, drop-drop, drop-cons, take-append-le, take-append-add, take-append-seam, take-all, take-nil}
 use Rattle.entries.specs.declared.Shape.{Shape}
-use Rattle.entries.specs.Entries.{entryLen, entriesOf, Whole, place, wholeGood}
+use Rattle.entries.specs.Entries.{entryLen, entriesOf, wholeGood}
+use Rattle.entries.specs.Premises.{Whole, place}
 use Rattle.entries.proofs.EntryLaws.{entry-within, fixed-long}
 use Rattle.entries.proofs.EntriesLaws.{flatten-append, entries-none, entries-more, entries-rest, entries-append, whole-good}
 

@@ -11,7 +11,8 @@ use lib.ListN.{length, drop, length-append, length-drop, List·getD-append}
 use lib.Seq.{getD-drop, drop-drop, drop-append-le}
 use lib.Dec.{eqb}
 use borrow.Author.Tests.{lt-ltb, le-ltb, eq-eqb, ne-eqb, eqb-true, eqb-false}
-use Rattle.octets.specs.Number.{byteAt, numAt, Reads}
+use Rattle.octets.specs.Number.{byteAt, numAt}
+use Rattle.octets.specs.Premises.{Reads}
 use Rattle.octets.proofs.Cases.{le-or-lt, eq-or-ne}
 use Rattle.entries.specs.Entries.{unitOf, textFrom, textLen}
 

@@ -10,7 +10,8 @@ use lib.ListN.{length, take, drop, length-append, length-drop, drop-of-length-le
 use lib.Seq.{drop-at, length-take-le, drop-drop}
 use Rattle.octets.proofs.Tests.{told-no, told-yes}
 use Rattle.entries.specs.declared.Shape.{Shape}
-use Rattle.entries.specs.Entries.{entryLen, entriesOf, Whole, Entry, place, extentOf}
+use Rattle.entries.specs.Entries.{entryLen, entriesOf, Entry, extentOf}
+use Rattle.entries.specs.Premises.{Whole, place}
 use Rattle.entries.specs.Rules.{allOf, through}
 use Rattle.entries.proofs.EntryLaws.{entry-within, entry-least, entry-taken}
 use Rattle.entries.proofs.EntriesLaws.{entries-nil, entries-none, entries-more}

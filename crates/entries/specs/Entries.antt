@@ -1,5 +1,5 @@
 -- The entries of a list field: a byte string, cut by the shape of its entries. Assumes nothing.
-use Prim.Native.Nat.{ℕ, zero, suc, _+_, _≤_, _<_}
+use Prim.Native.Nat.{ℕ, zero, suc, _+_, _<_}
 use mathlib.Core.Bool.{Bool, cond, _&&_}
 use mathlib.Core.List.{List, [], _∷_, flatten}
 use mathlib.Core.Path.{_≡_}
@@ -30,12 +30,6 @@ entryLen sh bs =
     cond (ltb (length bs) (sh .fixed)) 0
     (cond (eqb (sh .unit) 0) (sh .fixed) (textLen (sh .unit) (drop (sh .fixed) bs) (sh .fixed)))
 
--- the shapes that the code takes: an entry has fixed bytes, and a unit of text has at most 2 (1 in all lists of today)
-pub record Sound (sh : Shape) : Type 0 where
-  pub some : 1 ≤ sh .fixed
-  pub slim : sh .fixed ≤ 64
-  pub narrow : sh .unit ≤ 2
-
 -- "a list field holds one group or more": the whole entries at the front of bs, one after the other
 unfoldable pub entriesFrom : ℕ → Shape → List ℕ → List (List ℕ)
 entriesFrom zero sh bs = []
@@ -46,10 +40,6 @@ entriesFrom (suc f) sh bs =
 unfoldable pub entriesOf : Shape → List ℕ → List (List ℕ)
 entriesOf sh bs = entriesFrom (length bs) sh bs
 
--- "not filled by its subfields" is Layout: these are bytes that whole entries fill
-pub record Whole (sh : Shape) (bs : List ℕ) : Type 0 where
-  pub is : flatten (entriesOf sh bs) ≡ bs
-
 -- a byte string that is one whole entry
 pub record Entry (sh : Shape) (e : List ℕ) : Type 0 where
   pub is : entryLen sh e ≡ length e
@@ -59,10 +49,6 @@ pub record Entry (sh : Shape) (e : List ℕ) : Type 0 where
 pub data Each (sh : Shape) : List (List ℕ) → Type 0 where
   each-none : Each sh []
   each-more : {e : List ℕ} {es : List (List ℕ)} → Entry sh e → Each sh es → Each sh (e ∷ es)
-
--- where entry k starts, in bytes; past the last, where the entries end
-unfoldable pub place : Shape → ℕ → List ℕ → ℕ
-place sh k bs = length (flatten (take k (entriesOf sh bs)))
 
 -- how many entries, and where they end
 abbrev pub extentOf : Shape → List ℕ → Extent

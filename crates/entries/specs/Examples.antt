@@ -3,7 +3,8 @@ use mathlib.Core.Bool.{true, false}
 use mathlib.Core.List.{List, [], _∷_}
 use mathlib.Core.Path.{_≡_, refl}
 use Rattle.octets.specs.Number.{numAt}
-use Rattle.entries.specs.Entries.{textFrom, textLen, entryLen, entriesFrom, entriesOf, place, extentOf, wholeGood}
+use Rattle.entries.specs.Entries.{textFrom, textLen, entryLen, entriesFrom, entriesOf, extentOf, wholeGood}
+use Rattle.entries.specs.Premises.{place}
 
 -- "b12,A": two attributes, the second of an empty value
 attributes : entriesOf (record { fixed = 2; unit = 1 }) (75 ∷ 0 ∷ 49 ∷ 31 ∷ 31 ∷ 0 ∷ 31 ∷ []) ≡ (75 ∷ 0 ∷ 49 ∷ 31 ∷ []) ∷ (31 ∷ 0 ∷ 31 ∷ []) ∷ []

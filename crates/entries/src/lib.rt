@@ -6,7 +6,8 @@ ghost use Prim.Native.Nat.{_+_, _-_, _≤_};
 ghost use mathlib.Core.Path.{_≡_};
 ghost use lib.ListN.{length, drop};
 ghost use lib.Dec.{eqb};
-ghost use Rattle.entries.specs.Entries.{unitOf, textLen, entryLen, Sound, place, extentOf, wholeGood};
+ghost use Rattle.entries.specs.Entries.{unitOf, textLen, entryLen, extentOf, wholeGood};
+ghost use Rattle.entries.specs.Premises.{Sound, place};
 use octets::number::get2;
 use octets::number::wide;
 

@@ -11,17 +11,18 @@ use borrow.Author.Tests.{eq-eqb, ne-eqb}
 use Rattle.octets.proofs.Tests.{told-no, told-yes}
 use Rattle.octets.specs.Number.{byteAt}
 use Rattle.iso8211.specs.Record.{endOf}
-use Rattle.iso8211.specs.Field.{countAt, fieldAt, RecordIn}
+use Rattle.iso8211.specs.Field.{countAt, fieldAt}
+use Rattle.iso8211.specs.Premises.{RecordIn}
 use Rattle.iso8211.specs.File.{recordAt}
-use Rattle.iso8211.specs.Same.{sameList}
+use Rattle.fieldparts.specs.Same.{sameList}
 use Rattle.iso8211.proofs.Promise.{at-first, at-next}
 use Rattle.layout.specs.Record.{contentAt}
-use Rattle.chart.specs.Read.{aallAt, nallAt}
-use Rattle.header.specs.Dsid.{dsidOf, editionIn, numberIn}
+use Rattle.layout.specs.General.{aallAt, nallAt, editionIn, numberIn}
+use Rattle.header.specs.Dsid.{dsidOf}
 use Rattle.header.specs.Known.{PartsOf}
 use Rattle.header.specs.declared.dsid.Parts.{Parts}
 use Rattle.held.specs.Chart.{Header, headerOf}
-use Rattle.reissue.specs.Front.{DsidIn}
+use Rattle.fronts.specs.Front.{DsidIn}
 use Rattle.changes.specs.Change.{Change, changeOf}
 use Rattle.changes.specs.Follow.{chartName, followCode}
 use Rattle.follow.specs.Headed.{Headed, dsidCode}

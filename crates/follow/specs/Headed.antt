@@ -1,13 +1,14 @@
--- What is asked of the two files, and the rules on DSID alone. What is to be believed stands in `changes`. Assumes nothing.
+-- What is asked of the two files, and the rules on DSID alone. What is to be believed stands in `changes`. It serves the proofs, and nothing here
+-- need be believed. Assumes nothing.
 use Prim.Native.Nat.{ℕ, _+_}
 use mathlib.Core.Bool.{cond}
 use mathlib.Core.List.{List}
 use lib.Dec.{eqb}
-use Rattle.iso8211.specs.Field.{FramedAt}
+use Rattle.iso8211.specs.Premises.{FramedAt}
 use Rattle.iso8211.specs.File.{recordAt}
-use Rattle.iso8211.specs.Same.{sameList}
+use Rattle.fieldparts.specs.Same.{sameList}
 use Rattle.header.specs.Dsid.{Dsid}
-use Rattle.reissue.specs.Front.{DsidIn}
+use Rattle.fronts.specs.Front.{DsidIn}
 use Rattle.changes.specs.Follow.{chartName}
 
 -- a file of which record 0 and the record of DSID and DSSI are there

@@ -6,28 +6,33 @@ ghost use mathlib.Core.Bool.{_&&_};
 ghost use mathlib.Core.Path.{_≡_};
 ghost use lib.Dec.{eqb};
 ghost use Rattle.iso8211.specs.File.{recordAt};
-ghost use Rattle.iso8211.specs.Same.{sameList};
-ghost use Rattle.chart.specs.Read.{aallAt, nallAt};
+ghost use Rattle.fieldparts.specs.Same.{sameList};
 ghost use Rattle.header.specs.Dsid.{dsidOf};
 ghost use Rattle.header.specs.Known.{Known};
 ghost use Rattle.held.specs.Chart.{headerOf};
-ghost use Rattle.reissue.specs.Front.{DsidIn};
+ghost use Rattle.fronts.specs.Front.{DsidIn};
 ghost use Rattle.changes.specs.Change.{changeOf};
 ghost use Rattle.changes.specs.Follow.{chartName, followCode};
 ghost use Rattle.follow.specs.Headed.{Headed, dsidCode};
+use fieldparts::descriptive::same_bytes;
+use fronts::front::content;
+use fronts::front::dssi_at;
 use header::dsid::parts_of;
-use iso8211::descriptive::same_bytes;
 use iso8211::field::record_end;
-use reissue::front::content;
-use reissue::front::dssi_at;
+use table::offsets;
+ghost use Rattle.layout.specs.General.{aallAt, nallAt};
+use answers::codes::EDITION;
+use answers::codes::LEVEL;
+use answers::codes::NUMBER;
+use answers::codes::OTHER;
 
 // Whether the first eight bytes of DSNM are the same in the DSID f and in g.
 fn same_name(f: &[u8], g: &[u8]) -> bool
     requires { ⌜ Known (now f) × Known (now g) ⌝ }
     ensures { λ r. ⌜ r ≡ sameList (chartName (dsidOf (now (f .entry)))) (chartName (dsidOf (now (g .entry)))) ⌝ }
 {
-    let from: usize = 7;
-    let to: usize = 15;
+    let from: usize = offsets::DSID_DSNM;
+    let to: usize = offsets::DSID_DSNM + 8;
     same_bytes(f, from, to, &g[from..to])
 }
 
@@ -38,10 +43,10 @@ fn same_levels(cell: &[u8], at: usize, update: &[u8], by: usize) -> bool
 {
     let i = dssi_at(cell, at);
     let j = dssi_at(update, by);
-    if update[j + 1] != cell[i + 1] {
+    if update[j + offsets::DSSI_AALL] != cell[i + offsets::DSSI_AALL] {
         return false;
     }
-    update[j + 2] == cell[i + 2]
+    update[j + offsets::DSSI_NALL] == cell[i + offsets::DSSI_NALL]
 }
 
 // Codes 9 to 11, from the DSID f of the cell and g of the update.
@@ -50,15 +55,15 @@ fn dsid_code(f: &[u8], g: &[u8]) -> u32
     ensures { λ r. ⌜ r ≡ dsidCode (dsidOf (now (f .entry))) (dsidOf (now (g .entry))) ⌝ }
 {
     if !same_name(f, g) {
-        return 9;
+        return OTHER;
     }
     let p = parts_of(f);
     let q = parts_of(g);
     if q.edition != p.edition {
-        return 10;
+        return EDITION;
     }
     if q.number != p.number + 1 {
-        return 11;
+        return NUMBER;
     }
     0
 }
@@ -83,7 +88,7 @@ pub fn follow_code(cell: &[u8], update: &[u8]) -> u32
         return code;
     }
     if !same_levels(cell, at, update, by) {
-        return 12;
+        return LEVEL;
     }
     0
 }

@@ -12,7 +12,8 @@ use Rattle.octets.specs.Number.{byteAt}
 use Rattle.octets.proofs.Cases.{le-or-lt, eq-or-ne}
 use Rattle.formats.specs.declared.Taken.{Taken}
 use Rattle.formats.specs.declared.Formats.{Formats}
-use Rattle.formats.specs.Formats.{countAt, primitiveAt, Form, form, broken, single, repeated, joined, followed, itemAt, itemsFrom, listAt, writtenAt, Written}
+use Rattle.formats.specs.Formats.{countAt, primitiveAt, Form, form, broken, single, repeated, joined, followed, itemAt, itemsFrom, listAt, writtenAt}
+use Rattle.formats.specs.Premises.{Written}
 use Rattle.formats.proofs.FormatsLaws.{items-long, list-zero, list-more, items-next, items-none}
 
 -- ---- what is read
@@ -104,7 +105,8 @@ next-led inner s i led = joined led (countAt s i .value) (itemAt (inner s (count
 
 module _ (inner : List ℕ → ℕ → Form) (good : (s : List ℕ) (i : ℕ) → Sound (inner s i)) where
   next-grown : (s : List ℕ) (i : ℕ) (led : List ℕ) → Grown led (next-led inner s i led)
-  next-grown s i led = grown led (countAt s i .value) (itemAt (inner s (countAt s i .next)) s (countAt s i .next)) (some-item (inner s (countAt s i .next)) s (countAt s i .next) (sound-some (inner s (countAt s i .next)) (good s (countAt s i .next))))
+  next-grown s i led = grown led (countAt s i .value) (itemAt (inner s (countAt s i .next)) s (countAt s i .next))
+      (some-item (inner s (countAt s i .next)) s (countAt s i .next) (sound-some (inner s (countAt s i .next)) (good s (countAt s i .next))))
 
   sound-items : (n : ℕ) (s : List ℕ) (i : ℕ) (led : List ℕ) → Sound (itemsFrom inner n s i led)
   sound-items zero s i led = rw (items-none inner 0 s i led refl) sound-broken
@@ -128,7 +130,8 @@ module _ (inner : List ℕ → ℕ → Form) (good : (s : List ℕ) (i : ℕ) �
       ⊎-elim (λ (z : m ≤ 0). items-full (suc n) s i led (omega arith) ∙ sym (items-full m s i led (omega arith)))
       (λ (z : 0 < m).
       items-next inner (suc n) n s i led refl
-      ∙ ⊎-elim (λ (h : next-led inner s i led .end ≡ 0). followed-none (itemsFrom inner n s) s (next-led inner s i led) h ∙ sym (followed-none (itemsFrom inner (m - 1) s) s (next-led inner s i led) h))
+      ∙ ⊎-elim (λ (h : next-led inner s i led .end ≡ 0). followed-none (itemsFrom inner n s) s (next-led inner s i led) h
+      ∙ sym (followed-none (itemsFrom inner (m - 1) s) s (next-led inner s i led) h))
       (λ (h : (length led < length (next-led inner s i led .items)) × (length (next-led inner s i led .items) ≤ 32)).
       followed-alike (itemsFrom inner n s) (itemsFrom inner (m - 1) s) s (next-led inner s i led)
       (items-fuel n (m - 1) s (next-led inner s i led .end + 1) (next-led inner s i led .items) (omega arith) (omega arith))) (next-grown s i led .more)
@@ -171,7 +174,8 @@ written-only {f} {n} {r} {q} one two =
     formats-same r q (written-items one ∙ sym (written-items two)) (written-count one ∙ sym (written-count two)) (written-end one ∙ sym (written-end two))
 
 -- the end 0: no good list stands there, and nothing is written out
-pub written-none : (s : List ℕ) (at : ℕ) {n : ℕ} {r : Formats} → Written (writtenAt s at) n r → r .end ≡ 0 → (writtenAt s at ≡ broken) × (r .count ≡ 0) × (r .items ≡ replicate 32 0)
+pub written-none : (s : List ℕ) (at : ℕ) {n : ℕ} {r : Formats} → Written (writtenAt s at) n r → r .end ≡ 0 → (writtenAt s at ≡ broken) × (r .count ≡ 0)
+    × (r .items ≡ replicate 32 0)
 written-none s at {n} {r} told h =
     let none : writtenAt s at ≡ broken = written-broken s at (sym (written-end told) ∙ h) in
     (none, written-count told ∙ ap (λ (g : Form). length (g .items)) none, written-items told ∙ ap (λ (g : Form). g .items ++ replicate (32 - length (g .items)) 0) none)

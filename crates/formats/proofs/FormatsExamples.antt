@@ -2,10 +2,13 @@
 use mathlib.Core.List.{[], _∷_}
 use mathlib.Core.Path.{_≡_, refl}
 use Rattle.octets.specs.Digits.{isDigit}
-use Rattle.formats.specs.Formats.{form, broken, digitAt, shortFrom, shortAt, countAt, isLetter, closed, sizedAt, counts, binaryAt, primitiveAt, single, repeated, joined, followed, itemAt, itemsFrom, listAt, writtenAt}
+use Rattle.formats.specs.Formats.{form, broken, digitAt, shortFrom, shortAt, countAt, isLetter, closed, sizedAt, counts, binaryAt, primitiveAt, single, repeated, joined}
+use Rattle.formats.specs.Formats.{followed, itemAt, itemsFrom, listAt, writtenAt}
 
 -- (b11,b14,2b11,3A,2A(8),R(4),b11,2A,b11,b12,A)
-sixteen : writtenAt (40 ∷ 98 ∷ 49 ∷ 49 ∷ 44 ∷ 98 ∷ 49 ∷ 52 ∷ 44 ∷ 50 ∷ 98 ∷ 49 ∷ 49 ∷ 44 ∷ 51 ∷ 65 ∷ 44 ∷ 50 ∷ 65 ∷ 40 ∷ 56 ∷ 41 ∷ 44 ∷ 82 ∷ 40 ∷ 52 ∷ 41 ∷ 44 ∷ 98 ∷ 49 ∷ 49 ∷ 44 ∷ 50 ∷ 65 ∷ 44 ∷ 98 ∷ 49 ∷ 49 ∷ 44 ∷ 98 ∷ 49 ∷ 50 ∷ 44 ∷ 65 ∷ 41 ∷ []) 0 ≡ form (2914 ∷ 3682 ∷ 2914 ∷ 2914 ∷ 65 ∷ 65 ∷ 65 ∷ 2113 ∷ 2113 ∷ 1106 ∷ 2914 ∷ 65 ∷ 65 ∷ 2914 ∷ 3170 ∷ 65 ∷ []) 45
+sixteen : writtenAt (40 ∷ 98 ∷ 49 ∷ 49 ∷ 44 ∷ 98 ∷ 49 ∷ 52 ∷ 44 ∷ 50 ∷ 98 ∷ 49 ∷ 49 ∷ 44 ∷ 51 ∷ 65 ∷ 44 ∷ 50 ∷ 65 ∷ 40 ∷ 56 ∷ 41 ∷ 44 ∷ 82 ∷ 40 ∷ 52 ∷ 41 ∷ 44 ∷ 98 ∷ 49 ∷ 49 ∷ 44
+    ∷ 50 ∷ 65 ∷ 44 ∷ 98 ∷ 49 ∷ 49 ∷ 44 ∷ 98 ∷ 49 ∷ 50 ∷ 44 ∷ 65 ∷ 41 ∷ []) 0 ≡ form (2914 ∷ 3682 ∷ 2914 ∷ 2914 ∷ 65 ∷ 65 ∷ 65 ∷ 2113 ∷ 2113 ∷ 1106 ∷ 2914 ∷ 65 ∷ 65 ∷ 2914 ∷ 3170
+    ∷ 65 ∷ []) 45
 unfolding isDigit digitAt shortFrom shortAt countAt isLetter closed sizedAt counts binaryAt primitiveAt single repeated joined followed itemAt itemsFrom listAt writtenAt
 sixteen = refl
 

@@ -15,11 +15,13 @@ use Rattle.octets.specs.Number.{byteAt}
 use Rattle.octets.specs.Digits.{isDigit}
 use Rattle.octets.proofs.Tests.{told-no, told-yes}
 use Rattle.octets.proofs.Cases.{le-or-lt}
-use Rattle.iso8211.specs.Same.{sameList}
-use Rattle.iso8211.proofs.SameLaws.{same-unlike, turn-other, turn-alike, same-end}
+use Rattle.fieldparts.specs.Same.{sameList}
+use Rattle.fieldparts.proofs.SameLaws.{same-unlike, turn-other, turn-alike, same-end}
 use Rattle.formats.specs.declared.Taken.{Taken}
 use Rattle.formats.specs.declared.Formats.{Formats}
-use Rattle.formats.specs.Formats.{digitAt, taken, shortFrom, shortAt, countAt, isLetter, closed, sizedAt, counts, binaryAt, primitiveAt, Form, form, broken, single, repeated, joined, followed, itemAt, itemsFrom, listAt, Seen, Digit, Short, Primitive, formsOf, nothing, Filled, Written}
+use Rattle.formats.specs.Formats.{digitAt, taken, shortFrom, shortAt, countAt, isLetter, closed, sizedAt, counts, binaryAt, primitiveAt, Form, form, broken, single}
+use Rattle.formats.specs.Formats.{repeated, joined, followed, itemAt, itemsFrom, listAt}
+use Rattle.formats.specs.Premises.{Seen, Digit, Short, Primitive, formsOf, nothing, Filled, Written}
 
 -- ---- byte and digit
 pub seen-past : (s : List ℕ) (i : ℕ) → length s ≤ i → Seen s i 0
@@ -64,7 +66,8 @@ led-below n led small h = let top : 10 ^ n ≤ 10 ^ 2 = pow-le-pow-right {n = 10
 pub led-grows : (n led d : ℕ) → led < 10 ^ n → d ≤ 9 → led * 10 + d < 10 ^ (n + 1)
 led-grows n led d small h = rw (add-one n, pow-suc 10 n) (omega arith)
 
-module _ {s : List ℕ} (at n : ℕ) {led d : ℕ} (more : n < 3) (in-s : at + n ≤ length s) (small : led < 10 ^ n) (so : shortAt s at ≡ shortFrom (3 - n) s (at + n) led) (digit : Digit s (at + n) d) where
+module _ {s : List ℕ} (at n : ℕ) {led d : ℕ} (more : n < 3) (in-s : at + n ≤ length s) (small : led < 10 ^ n) (so : shortAt s at ≡ shortFrom (3 - n) s (at + n) led)
+    (digit : Digit s (at + n) d) where
   pub short-ends : 9 < d → Short (shortAt s at) s at (taken led (at + n))
   short-ends h = record {
     is = sym (so ∙ short-stop (3 - n) (3 - (n + 1)) s (at + n) led d (omega arith) (digit .is) h);
@@ -76,7 +79,8 @@ module _ {s : List ℕ} (at n : ℕ) {led d : ℕ} (more : n < 3) (in-s : at + n
   pub short-more : d ≤ 9 → shortAt s at ≡ shortFrom (3 - (n + 1)) s (at + (n + 1)) (led * 10 + d)
   short-more h = so ∙ short-next (3 - n) (3 - (n + 1)) s (at + n) led d (omega arith) (digit .is) h ∙ rw (add-assoc at n 1)
 
-pub short-full : {s : List ℕ} {at n led : ℕ} → 3 ≤ n → n ≤ 3 → at + n ≤ length s → led < 10 ^ n → shortAt s at ≡ shortFrom (3 - n) s (at + n) led → Short (shortAt s at) s at (taken led (at + 3))
+pub short-full : {s : List ℕ} {at n led : ℕ} → 3 ≤ n → n ≤ 3 → at + n ≤ length s → led < 10 ^ n → shortAt s at ≡ shortFrom (3 - n) s (at + n) led
+    → Short (shortAt s at) s at (taken led (at + 3))
 unfolding shortFrom
 short-full {s} {at} {n} {led} l h in-s small so =
     let three : n ≡ 3 = omega arith in
@@ -101,7 +105,8 @@ module _ {s : List ℕ} {at letter b : ℕ} (first : Seen s at letter) (second :
   unfolding sizedAt closed
   sized-zero {size} h short z = record { is = rw (← second .is, eq-eqb b 40 h, ← short .is, lt-leb 1 (size .value) z); within = omega arith }
 
-  pub sized-open : {size : Taken} {m : ℕ} → b ≡ 40 → Short (shortAt s (at + 2)) s (at + 2) size → 1 ≤ size .value → Seen s (size .next) m → (m ≡ 41 → ⊥) → Primitive (sizedAt s at) s (taken 0 0)
+  pub sized-open : {size : Taken} {m : ℕ} → b ≡ 40 → Short (shortAt s (at + 2)) s (at + 2) size → 1 ≤ size .value → Seen s (size .next) m → (m ≡ 41 → ⊥)
+      → Primitive (sizedAt s at) s (taken 0 0)
   unfolding sizedAt closed
   sized-open {size} {m} h short some mark no-end =
       record { is = rw (← second .is, eq-eqb b 40 h, ← short .is, le-leb 1 (size .value) some, ← mark .is, ne-eqb m 41 no-end); within = omega arith }
@@ -234,7 +239,8 @@ repeated-next j i xs e = rw e
 pub record Repeating (led : Formats) (times : ℕ) (part all : Formats) (k : ℕ) : Type 0 where
   pub fills : Filled all
   pub counted : all .count ≡ led .count + k * part .count
-  pub so : take (led .count) (led .items) ++ repeated times (take (part .count) (part .items)) ≡ take (all .count) (all .items) ++ repeated (times - k) (take (part .count) (part .items))
+  pub so : take (led .count) (led .items) ++ repeated times (take (part .count) (part .items)) ≡ take (all .count) (all .items)
+      ++ repeated (times - k) (take (part .count) (part .items))
 
 pub repeating-start : {led : Formats} (times : ℕ) (part : Formats) → Filled led → Repeating led times part led 0
 repeating-start {led} times part fills = record { fills = fills; counted = omega arith; so = rw (sub-zero times) }
@@ -243,7 +249,8 @@ pub repeating-room : {led part all : Formats} {times k : ℕ} → Repeating led 
 repeating-room {led} {part} {all} {times} {k} so h room = let z = repeat-room (led .count) k times (part .count) h room in let y = so .counted in omega arith
 
 pub repeating-next : {led part all next : Formats} {times k : ℕ} → Repeating led times part all k → k < times
-    → Written (form (take (all .count) (all .items) ++ take (part .count) (part .items)) (part .end)) (part .end) next → next .count ≡ all .count + part .count → Repeating led times part next (k + 1)
+    → Written (form (take (all .count) (all .items) ++ take (part .count) (part .items)) (part .end)) (part .end) next → next .count ≡ all .count + part .count
+    → Repeating led times part next (k + 1)
 repeating-next {led} {part} {all} {next} {times} {k} so h told counted =
     let xs = take (part .count) (part .items) in
     let step : suc k * part .count ≡ k * part .count + part .count = suc-mul k (part .count) in
@@ -251,11 +258,13 @@ repeating-next {led} {part} {all} {next} {times} {k} so h told counted =
     record {
       fills = told .fills;
       counted = let y = so .counted in rw (add-one k, step) (omega arith);
-      so = so .so ∙ rw (repeated-next (times - k) (times - (k + 1)) xs (omega arith), front) (sym (append-assoc (take (all .count) (all .items)) xs (repeated (times - (k + 1)) xs)));
+      so = so .so ∙ rw (repeated-next (times - k) (times - (k + 1)) xs (omega arith), front)
+          (sym (append-assoc (take (all .count) (all .items)) xs (repeated (times - (k + 1)) xs)));
     }
 
 pub repeating-all : {led part all : Formats} {times k : ℕ} → Repeating led times part all k → times ≤ k
-    → Written (form (take (led .count) (led .items) ++ repeated times (take (part .count) (part .items))) (part .end)) (part .end) (record { items = all .items; count = all .count; end = part .end })
+    → Written (form (take (led .count) (led .items) ++ repeated times (take (part .count) (part .items))) (part .end)) (part .end)
+    (record { items = all .items; count = all .count; end = part .end })
 unfolding repeated
 repeating-all {led} {part} {all} {times} {k} so h =
     let xs = take (part .count) (part .items) in
@@ -280,14 +289,16 @@ module _ (led part : Formats) {r : Formats} (times : ℕ) (empty : r ≡ nothing
   unfolding joined
   join-over h some z = written-nothing (part .end) (rw (ne-eqb (part .end) 0 h, le-leb 1 times some, lt-leb times 99 z)) empty
 
-  pub join-long : Filled led → Filled part → (part .end ≡ 0 → ⊥) → 1 ≤ times → times ≤ 99 → 32 < led .count + times * part .count → Written (joined (formsOf led .items) times (formsOf part)) (part .end) r
+  pub join-long : Filled led → Filled part → (part .end ≡ 0 → ⊥) → 1 ≤ times → times ≤ 99 → 32 < led .count + times * part .count
+      → Written (joined (formsOf led .items) times (formsOf part)) (part .end) r
   unfolding joined
   join-long one two h some few z =
       written-nothing (part .end)
       (rw (ne-eqb (part .end) 0 h, le-leb 1 times some, le-leb times 99 few, items-long one, items-long two, lt-leb (led .count + times * part .count) 32 z)) empty
 
 pub join-all : {led part r : Formats} (times : ℕ) → Filled led → Filled part → (part .end ≡ 0 → ⊥) → 1 ≤ times → times ≤ 99 → led .count + times * part .count ≤ 32
-    → Written (form (take (led .count) (led .items) ++ repeated times (take (part .count) (part .items))) (part .end)) (part .end) r → Written (joined (formsOf led .items) times (formsOf part)) (part .end) r
+    → Written (form (take (led .count) (led .items) ++ repeated times (take (part .count) (part .items))) (part .end)) (part .end) r
+    → Written (joined (formsOf led .items) times (formsOf part)) (part .end) r
 unfolding joined
 join-all {led} {part} {r} times one two h some few z told =
     rw (ne-eqb (part .end) 0 h, le-leb 1 times some, le-leb times 99 few, items-long one, items-long two, le-leb (led .count + times * part .count) 32 z) told
@@ -297,7 +308,8 @@ pub item-list : {s : List ℕ} {at b : ℕ} {inner : Formats} → Seen s at b �
 unfolding itemAt
 item-list {s} {at} {b} {inner} seen h fills within = rw (← seen .is, eq-eqb b 40 h) (record { is = refl; fills = fills; within = within })
 
-pub item-alone : {s : List ℕ} {at b : ℕ} (inner : Formats) {r : Formats} → Seen s at b → (b ≡ 40 → ⊥) → Written (single (primitiveAt s at)) (length s) r → Written (itemAt (formsOf inner) s at) (length s) r
+pub item-alone : {s : List ℕ} {at b : ℕ} (inner : Formats) {r : Formats} → Seen s at b → (b ≡ 40 → ⊥) → Written (single (primitiveAt s at)) (length s) r
+    → Written (itemAt (formsOf inner) s at) (length s) r
 unfolding itemAt
 item-alone {s} {at} {b} inner {r} seen h told = rw (← seen .is, ne-eqb b 40 h) told
 

@@ -1,2 +1,3 @@
 -- The notion of `formats`.
 pub mod Formats
+pub mod Premises

@@ -4,8 +4,9 @@ ghost use Prim.Native.Nat.{_+_, _*_, _≤_, _<_};
 ghost use mathlib.Core.Path.{_≡_};
 ghost use mathlib.Core.List.{_++_};
 ghost use lib.ListN.{length, take};
-ghost use Rattle.iso8211.specs.Same.{sameList};
-ghost use Rattle.formats.specs.Formats.{Seen, Digit, Short, Primitive, Filled, Written, shortAt, countAt, isLetter, counts, sizedAt, binaryAt, primitiveAt, form, formsOf, nothing, single, repeated, joined, itemAt, listAt, writtenAt};
+ghost use Rattle.fieldparts.specs.Same.{sameList};
+ghost use Rattle.formats.specs.Formats.{shortAt, countAt, isLetter, counts, sizedAt, binaryAt, primitiveAt, form, single, repeated, joined, itemAt, listAt, writtenAt};
+ghost use Rattle.formats.specs.Premises.{Seen, Digit, Short, Primitive, Filled, Written, formsOf, nothing};
 use octets::number::wide;
 
 // A number or a primitive's code, and the index past it. The value 0: there is none.

@@ -4,7 +4,7 @@
 // `too long`. It takes records and fields from `iso8211`.
 ghost use Prim.Native.Nat.{_≤_};
 ghost use mathlib.Core.Path.{_≡_};
-ghost use Rattle.iso8211.specs.Field.{FramedAt};
+ghost use Rattle.iso8211.specs.Premises.{FramedAt};
 ghost use Rattle.iso8211.specs.File.{frameOf};
 ghost use Rattle.iso8211.specs.declared.file.Framed.the-variants.{Records};
 use iso8211::Framed;

@@ -20,15 +20,17 @@ use Rattle.octets.proofs.DigitsLaws.{digits-length, number-read, fewest-least, 
 use Rattle.values.specs.Fault.{faultAt}
 use Rattle.values.specs.Fault as fault
 use Rattle.values.specs.Rule.{within, rcidGood, digitsWithin}
-use Rattle.values.specs.Text.{untilEnd, textEnd}
-use Rattle.dataset.specs.Date.{dateGood}
-use Rattle.dataset.specs.Dsid.{dsnmEnd, edtnEnd, updnEnd, psdnEnd, predEnd, comtEnd, dsidEnds, DsidLaid, dsidLaid, codesAt, dsnmGood, edtnGood}
-use Rattle.dataset.specs.Dsid.{updnDigits, updnGood, uadtGood, stedGood, predGood, headFault, namesFault, issueFault, productFault, dsidOver, dsidFault}
+use Rattle.headvalues.specs.Text.{untilEnd, textEnd}
+use Rattle.dates.specs.Date.{dateGood}
+use Rattle.dataset.specs.Dsid.{dsnmEnd, edtnEnd, updnEnd, psdnEnd, predEnd, comtEnd, dsidEnds, dsidLaid, codesAt, dsnmGood, edtnGood, updnDigits, updnGood, uadtGood, stedGood}
+use Rattle.dataset.specs.Dsid.{predGood, headFault, namesFault, issueFault, productFault, dsidOver, dsidFault}
+use Rattle.dataset.specs.Premises.{DsidLaid}
 use Rattle.dataset.proofs.DsidLaws.{dsid-laid}
-use Rattle.header.specs.Dsid.{Dsid, shortest, editionIn, numberIn, dsidWith, dsidOf, dsidBytes, revised}
+use Rattle.header.specs.Dsid.{Dsid, shortest, dsidWith, dsidOf, dsidBytes, revised}
+use Rattle.layout.specs.General.{editionIn, numberIn}
 use Rattle.header.specs.Known.{Known, dated}
-use Rattle.objects.proofs.IdLaws.{has-self}
-use Rattle.objects.proofs.ReadLaws.{none-first, none-at}
+use Rattle.itemfields.proofs.IdLaws.{has-self}
+use Rattle.itemfields.proofs.ReadLaws.{none-first, none-at}
 
 -- ---- the first 1F
 until-digits : (w v : ℕ) (ys : List ℕ) → untilEnd (digitsOf w v ++ (31 ∷ ys)) ≡ w
@@ -41,7 +43,8 @@ unfolding untilEnd
 until-take zero l ys h f = absurd (omega arith)
 until-take (suc n) [] ys h f = absurd (omega arith)
 until-take (suc n) (b ∷ bs) ys h f =
-    ⊎-elim (λ (e : eqb b 31 ≡ true). rw e) (λ (e : eqb b 31 ≡ false). let g : suc (untilEnd bs) < suc n = rw e at h in rw (e, until-take n bs ys (omega arith) (omega arith))) (true-or-false (eqb b 31))
+    ⊎-elim (λ (e : eqb b 31 ≡ true). rw e) (λ (e : eqb b 31 ≡ false). let g : suc (untilEnd bs) < suc n = rw e at h in rw (e, until-take n bs ys (omega arith) (omega arith)))
+    (true-or-false (eqb b 31))
 
 -- ---- what stands elsewhere
 -- the same bytes from i of s and from j of t on
@@ -113,7 +116,14 @@ head-same e = rw (e .byte 0 (omega arith), num-same 1 4 (omega arith) e, e .byte
 name-same : {s t : List ℕ} (i : ℕ) → Same 20 s t → dsnmGood false s i ≡ dsnmGood false t i
 unfolding dsnmGood numberAt
 name-same i e =
-    rw (codes-same 2 7 (omega arith) e, e .byte 9 (omega arith), e .byte 6 (omega arith), codes-same 5 10 (omega arith) e, e .byte 15 (omega arith), digits-same 16 3 0 (omega arith) e)
+    rw (
+      codes-same 2 7 (omega arith) e,
+      e .byte 9 (omega arith),
+      e .byte 6 (omega arith),
+      codes-same 5 10 (omega arith) e,
+      e .byte 15 (omega arith),
+      digits-same 16 3 0 (omega arith) e,
+    )
 
 -- ---- what a good DSID says
 pub record DsidGood (d : List ℕ) : Type 0 where
@@ -187,7 +197,14 @@ module _ (front : List ℕ) (ed nu : ℕ) (back : List ℕ) (long : length front
 
   dsid-length : length v ≡ 22 + a + b + length back
   unfolding dsidWith shortest
-  dsid-length = rw (length-append, length-append (digitsOf a ed) (31 ∷ (digitsOf b nu ++ (31 ∷ back))), length-append (digitsOf b nu) (31 ∷ back), digits-length a ed, digits-length b nu, long) (omega arith)
+  dsid-length = rw (
+    length-append,
+    length-append (digitsOf a ed) (31 ∷ (digitsOf b nu ++ (31 ∷ back))),
+    length-append (digitsOf b nu) (31 ∷ back),
+    digits-length a ed,
+    digits-length b nu,
+    long,
+  ) (omega arith)
 
   has-edition : Has v 20 (shortest ed ++ (31 ∷ (shortest nu ++ (31 ∷ back))))
   unfolding dsidWith

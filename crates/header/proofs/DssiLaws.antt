@@ -12,10 +12,10 @@ use Rattle.octets.proofs.AreaLaws.{has-left, has-right}
 use Rattle.octets.proofs.NumberLaws.{num-read}
 use Rattle.values.specs.Fault.{faultAt}
 use Rattle.values.specs.Fault as fault
-use Rattle.values.specs.Dssi.{noneGood, dssiFault}
-use Rattle.names.specs.declared.counts.Tally.{Tally}
-use Rattle.names.specs.Counts.{AtMost}
-use Rattle.objects.proofs.IdLaws.{has-self}
+use Rattle.headvalues.specs.Dssi.{noneGood, dssiFault}
+use Rattle.counted.specs.declared.counts.Tally.{Tally}
+use Rattle.counted.specs.Tallies.{AtMost}
+use Rattle.itemfields.proofs.IdLaws.{has-self}
 use Rattle.header.specs.Dssi.{featureCounts, vectorCounts, dssiBytes}
 
 pub record DssiRead (v : List ℕ) (aall nall : ℕ) (t : Tally) : Type 0 where

@@ -15,16 +15,17 @@ use Rattle.iso8211.specs.Field.{countAt, directoryAt, fieldAt}
 use Rattle.formats.specs.Formats as formats
 use Rattle.formats.specs.Formats.{digitAt, shortFrom, shortAt, isLetter, closed, sizedAt, counts, binaryAt, primitiveAt, single, repeated, joined, followed, itemAt, itemsFrom}
 use Rattle.formats.specs.Formats.{listAt, writtenAt}
-use Rattle.iso8211.specs.Descriptive.{partsOf, partsAt, separatorAt, separatorIn}
-use Rattle.iso8211.specs.Same.{sameList}
+use Rattle.fieldparts.specs.Descriptive.{partsOf, partsAt, separatorAt, separatorIn}
+use Rattle.fieldparts.specs.Same.{sameList}
 use Rattle.table.specs.Table.{rowOf, table, tagOf, kindOf, among, asNumber}
 use Rattle.table.specs.Text.{bytes}
-use Rattle.described.specs.Described.{labelsIn, formatsIn, sameFormats, describes, describedFrom, describedOf}
-use Rattle.records.specs.Written.{First, tagBytes, bodyOf, rowsFor, longest, farthest, rowBytes, rowsBytes, baseFor}
+use Rattle.declarations.specs.Described.{labelsIn, formatsIn, sameFormats, describes, describedFrom, describedOf}
+use Rattle.records.specs.Written.{tagBytes, bodyOf, rowsFor, longest, farthest, rowBytes, rowsBytes, baseFor}
+use Rattle.records.specs.Premises.{First}
 use Rattle.header.specs.First.{tree, declares, firstPieces, firstLeader, firstOver, firstRecord}
 use Rattle.header.specs.Literal.{firstBytes}
-use Rattle.objects.proofs.LaidLaws.{Declared}
-use Rattle.objects.proofs.ReadLaws.{allBelow, kinds-keep}
+use Rattle.itemfields.proofs.LaidLaws.{Declared}
+use Rattle.itemfields.proofs.ReadLaws.{allBelow, kinds-keep}
 
 first-good : (t : List ℕ) → recordGood true (firstBytes ++ t) 0 ≡ true
 unfolding firstBytes digitsFrom numberAt isDigit kindGood sizeGood leaderGood tagAt rowAt rows fieldGood inRow bodyGood recordGood
@@ -50,7 +51,8 @@ literal-described t = refl
 declared-first : (k : ℕ) → k ≤ 18 → rowOf k .control ≡ false → getD firstMarks k 0 ≡ 1
 unfolding allBelow rowOf table
 declared-first k few free =
-    eqb-true (getD firstMarks k 0) 1 (or-free (rowOf k .control) (eqb (getD firstMarks k 0) 1) (kinds-keep (λ j. rowOf j .control || eqb (getD firstMarks j 0) 1) 19 k refl (omega arith)) free)
+    eqb-true (getD firstMarks k 0) 1
+    (or-free (rowOf k .control) (eqb (getD firstMarks k 0) 1) (kinds-keep (λ j. rowOf j .control || eqb (getD firstMarks j 0) 1) 19 k refl (omega arith)) free)
   where
     or-free : (a b : Bool) → (a || b) ≡ true → a ≡ false → b ≡ true
     or-free false b h e = h

@@ -6,15 +6,17 @@ use native.Mathlib.Omega.{arith}
 use lib.ListN.{length, take, drop, length-append, length-drop}
 use lib.Seq.{length-take-le, take-all}
 use Rattle.octets.specs.Number.{bytesOf}
-use Rattle.octets.specs.Digits.{Number, numberAt, digitsOf, fewest}
+use Rattle.octets.specs.Digits.{numberAt, digitsOf, fewest}
+use Rattle.octets.specs.Premises.{Number}
 use Rattle.octets.specs.Area.{Wrote}
 use Rattle.octets.proofs.AreaLaws.{wrote-join, wrote-as, wrote-length}
 use Rattle.octets.proofs.NumberLaws.{wrote-to}
 use Rattle.octets.proofs.DigitsLaws.{digits-length}
 use Rattle.dataset.specs.Dsid.{dsidEnds, updnEnd}
 use Rattle.dataset.specs.declared.Ends.{Ends}
-use Rattle.names.specs.declared.counts.Tally.{Tally}
-use Rattle.header.specs.Dsid.{shortest, editionIn, numberIn, dsidWith, dsidOf, dsidBytes, revised}
+use Rattle.counted.specs.declared.counts.Tally.{Tally}
+use Rattle.header.specs.Dsid.{shortest, dsidWith, dsidOf, dsidBytes, revised}
+use Rattle.layout.specs.General.{editionIn, numberIn}
 use Rattle.header.specs.Dssi.{featureCounts, vectorCounts, dssiBytes}
 use Rattle.header.specs.Known.{Known, EndsKnown, PartsOf, SizeWith, dated}
 use Rattle.header.specs.declared.dsid.Parts.{Parts}

@@ -1,9 +1,10 @@
 -- DSID as a value: what it says, and how the held form writes it. Assumes nothing.
-use Prim.Native.Nat.{ℕ, _+_, _-_}
+use Prim.Native.Nat.{ℕ, _+_}
 use mathlib.Core.List.{List, _∷_, _++_}
 use lib.ListN.{take, drop}
-use Rattle.octets.specs.Digits.{numberAt, digitsOf, fewest}
-use Rattle.dataset.specs.Dsid.{dsnmEnd, edtnEnd, updnEnd}
+use Rattle.octets.specs.Digits.{digitsOf, fewest}
+use Rattle.dataset.specs.Dsid.{updnEnd}
+use Rattle.layout.specs.General.{editionIn, numberIn}
 
 -- RCNM to DSNM, with the 1F behind it; EDTN and UPDN; UADT and ISDT, eight bytes each; STED to COMT as they stand
 pub record Dsid : Type 0 where
@@ -18,13 +19,6 @@ abbrev pub dsid : List ℕ → ℕ → ℕ → List ℕ → List ℕ → List �
 dsid named edition number applied issued rest = record { named = named; edition = edition; number = number; applied = applied; issued = issued; rest = rest }
 
 -- ---- read
--- EDTN and UPDN as numbers, each between two 1F
-unfoldable pub editionIn : List ℕ → ℕ
-editionIn d = numberAt d (dsnmEnd d + 1) (edtnEnd d - (dsnmEnd d + 1))
-
-unfoldable pub numberIn : List ℕ → ℕ
-numberIn d = numberAt d (edtnEnd d + 1) (updnEnd d - (edtnEnd d + 1))
-
 -- what a DSID says; DSNM has twelve bytes, from byte 7 on
 unfoldable pub dsidOf : List ℕ → Dsid
 dsidOf d = dsid (take 20 d) (editionIn d) (numberIn d) (take 8 (drop (updnEnd d + 1) d)) (take 8 (drop (updnEnd d + 9) d)) (drop (updnEnd d + 17) d)

@@ -2,7 +2,7 @@
 use Prim.Native.Nat.{ℕ}
 use mathlib.Core.List.{List, [], _∷_, _++_}
 use Rattle.octets.specs.Number.{bytesOf}
-use Rattle.names.specs.declared.counts.Tally.{Tally}
+use Rattle.counted.specs.declared.counts.Tally.{Tally}
 
 -- NOMR meta, NOCR, NOGR geo, NOLR collection: "NOCR and NOFA 0 in cells"
 unfoldable pub featureCounts : Tally → List ℕ

@@ -5,7 +5,8 @@ use mathlib.Core.Path.{_≡_}
 use lib.ListN.{length, take, drop}
 use Rattle.dataset.specs.Dsid.{dsnmEnd, edtnEnd, updnEnd}
 use Rattle.dataset.specs.declared.Ends.{Ends}
-use Rattle.header.specs.Dsid.{Dsid, dsid, editionIn, numberIn, dsidBytes}
+use Rattle.header.specs.Dsid.{Dsid, dsid, dsidBytes}
+use Rattle.layout.specs.General.{editionIn, numberIn}
 use Rattle.header.specs.declared.dsid.Parts.{Parts}
 
 -- a DSID without a fault: DSNM ends at byte 19, EDTN has at most four digits, UPDN at most three, and what must stand behind them is there

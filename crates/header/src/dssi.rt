@@ -6,7 +6,7 @@ ghost use lib.ListN.{length};
 ghost use Rattle.octets.specs.Number.{bytesOf};
 ghost use Rattle.octets.specs.Area.{Wrote};
 ghost use Rattle.header.specs.Dssi.{dssiBytes, featureCounts, vectorCounts};
-use names::counts::Tally;
+use counted::counts::Tally;
 use octets::number::put1;
 use octets::number::put4;
 

@@ -4,3 +4,22 @@
 pub mod dsid;
 pub mod dssi;
 pub mod first;
+
+pub use dsid::parts_of;
+
+// How many bytes the DSID f has in held form.
+pub use dsid::dsid_size;
+
+// The DSID f in held form.
+pub use dsid::put_dsid;
+
+// How many bytes the DSID f of a cell has in held form once the update with the DSID g is
+// applied.
+pub use dsid::revised_size;
+
+// The DSID f of a cell once the update with the DSID g is applied.
+pub use dsid::put_revised;
+pub use dssi::put_dssi;
+
+// Record 0, which is the same for every cell.
+pub use first::put_first;

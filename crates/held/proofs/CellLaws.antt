@@ -12,7 +12,8 @@ use Rattle.octets.specs.Number.{byteAt}
 use Rattle.octets.proofs.Cases.{true-or-false, le-or-lt}
 use Rattle.octets.proofs.Tests.{both}
 use Rattle.iso8211.specs.Record.{endOf}
-use Rattle.iso8211.specs.Field.{fieldAt, RecordIn}
+use Rattle.iso8211.specs.Field.{fieldAt}
+use Rattle.iso8211.specs.Premises.{RecordIn}
 use Rattle.iso8211.specs.File.{frameOf, recordAt}
 use Rattle.iso8211.specs.declared.file.Framed.the-variants.{Records}
 use Rattle.iso8211.proofs.Promise.{record-in, at-next, last-ends}
@@ -20,39 +21,43 @@ use Rattle.words.specs.Order.{isIn}
 use Rattle.table.specs.Table.{rowOf, table, DSID, DSSI, VRID, FRID}
 use Rattle.values.specs.Fault as fault
 use Rattle.dataset.specs.Dsid.{dsidLaid, dsidFault}
-use Rattle.values.specs.Dssi.{dssiFault}
-use Rattle.values.specs.Dspm.{dspmLaid, dspmFault}
+use Rattle.headvalues.specs.Dssi.{dssiFault}
+use Rattle.headvalues.specs.Dspm.{dspmLaid, dspmFault}
 use Rattle.layout.specs.Layout.{opens, mayEnd, filled, layoutFault, start}
 use Rattle.layout.specs.Record.{contentAt}
 use Rattle.layout.proofs.KindLaws.{kind-few, opens-dsid, opens-dspm, opens-item, opens-feature, follows-dsid}
 use Rattle.layout.proofs.Promise.{full-dssi}
-use Rattle.chart.specs.Value.{fieldFault, seenBefore, seenAfter, valueFault}
-use Rattle.chart.specs.Read.{refusal, fine, nextStage, isFeature, aallAt, nallAt, passedState, firstState, recordsFault, readFault}
+use Rattle.fieldvalue.specs.Value.{fieldFault, seenBefore, seenAfter, valueFault}
+use Rattle.chart.specs.Read.{nextStage, isFeature, passedState, firstState, recordsFault, readFault}
 use Rattle.chart.specs.declared.read.State.{State}
-use Rattle.chart.specs.declared.read.Refusal.{Refusal}
-use Rattle.described.specs.Described.{describedOf}
-use Rattle.items.specs.Identity.{nameAt, nameOf, wordFor}
-use Rattle.items.proofs.IdentityLaws.{word-name, num-one}
-use Rattle.names.specs.Names.{firstItem, wordsFrom, nameWords, twiceFrom, twiceOf}
-use Rattle.records.specs.Pieces.{Piece, pieceOf, piecesAt}
-use Rattle.objects.specs.Views.{kindIn, laidIn, valuedIn}
-use Rattle.objects.specs.Object.{objectAt}
-use Rattle.held.specs.Chart.{objectName, objectsFrom, headerOf, chartOf}
+use Rattle.declarations.specs.Described.{describedOf}
+use Rattle.items.proofs.IdentityLaws.{num-one}
+use Rattle.names.specs.Names.{firstItem, itemsFrom, twiceFrom, firstTwice, twiceOf}
+use Rattle.names.specs.Held.{heldItems}
+use Rattle.records.specs.Pieces.{Piece}
+use Rattle.records.specs.Premises.{pieceOf, piecesAt}
+use Rattle.itemfields.specs.Views.{kindIn, laidIn, valuedIn}
+use Rattle.items.specs.Item.{Item, itemAt, itemName}
+use Rattle.held.specs.Chart.{headerOf, chartOf}
 use Rattle.held.specs.Good.{Good, GoodChart}
 use Rattle.held.specs.Good.Good.{a-vector, a-feature}
-use Rattle.objects.proofs.ViewLaws.{laid-told, values-told, count-seen, piece-seen, number-seen}
-use Rattle.objects.proofs.JoinLaws.{step}
-use Rattle.objects.proofs.ReadLaws.{Opened, opened, vector-told, feature-told, none-first, none-at, never}
+use Rattle.itemfields.proofs.ViewLaws.{laid-told, values-told, count-seen, piece-seen, number-seen}
+use Rattle.itemfields.proofs.JoinLaws.{step}
+use Rattle.itemfields.proofs.ReadLaws.{Opened, opened, vector-told, feature-told, none-first, none-at, never}
 use Rattle.header.specs.Known.{Known}
 use Rattle.header.proofs.DsidLaws.{dsid-back, dsid-known}
 use Rattle.held.proofs.OrderLaws.{namesOf, Apart, order-ordered}
 use Rattle.held.proofs.OrderLaws.Apart.{apart-none, apart-more}
+use Rattle.layout.specs.General.{aallAt, nallAt}
+use Rattle.answers.specs.Answer.{refusal, fine}
+use Rattle.answers.specs.declared.refusal.Refusal.{Refusal}
 
 -- ---- out of the walk over the records
 pub told : (a b k : ℕ) (rest : Refusal) → (cond (eqb a 0) (cond (eqb b 0) rest (refusal 6 k b)) (refusal 5 k a)) .code ≡ 0 → (a ≡ 0) × (b ≡ 0) × (rest .code ≡ 0)
 told a b k rest h =
     ⊎-elim (λ (x : eqb a 0 ≡ true).
-    ⊎-elim (λ (y : eqb b 0 ≡ true). (eqb-true a 0 x, eqb-true b 0 y, rw (x, y) at h)) (λ (y : eqb b 0 ≡ false). absurd (let z : _≡_ {A = ℕ} 6 0 = rw (x, y) at h in omega arith)) (true-or-false (eqb b 0)))
+    ⊎-elim (λ (y : eqb b 0 ≡ true). (eqb-true a 0 x, eqb-true b 0 y, rw (x, y) at h)) (λ (y : eqb b 0 ≡ false). absurd (let z : _≡_ {A = ℕ} 6 0 = rw (x, y) at h in omega arith))
+    (true-or-false (eqb b 0)))
     (λ (x : eqb a 0 ≡ false). absurd (let z : _≡_ {A = ℕ} 5 0 = rw x at h in omega arith)) (true-or-false (eqb a 0))
 
 pub open-record : (update : Bool) (stage : ℕ) (marks : List ℕ) (aall nall : ℕ) (s : List ℕ) (at : ℕ) → RecordIn s at → layoutFault update stage marks s at ≡ 0
@@ -63,7 +68,7 @@ open-record update stage marks aall nall s at known laid valued =
 
 -- ---- one object
 opened-object : (stage : ℕ) (marks : List ℕ) (aall nall : ℕ) (s : List ℕ) (at : ℕ) → ((i : ℕ) → byteAt s i < 256) → 2 ≤ stage → stage ≤ 3
-    → Opened false stage marks aall nall (piecesAt s at) → Good aall nall (objectAt s at)
+    → Opened false stage marks aall nall (piecesAt s at) → Good aall nall (itemAt s at)
 opened-object stage marks aall nall s at small low high o =
     let k = kindIn (o .two) in
     let few = kind-few (o .two .named) in
@@ -80,8 +85,9 @@ opened-object stage marks aall nall s at small low high o =
 
 object-told : (stage : ℕ) (marks : List ℕ) (aall nall : ℕ) (s : List ℕ) (at : ℕ) → ((i : ℕ) → byteAt s i < 256) → 2 ≤ stage → stage ≤ 3 → RecordIn s at
     → layoutFault false stage marks s at ≡ 0 → valueFault false aall nall s at ≡ 0
-    → Good aall nall (objectAt s at)
-object-told stage marks aall nall s at small low high known laid valued = opened-object stage marks aall nall s at small low high (open-record false stage marks aall nall s at known laid valued)
+    → Good aall nall (itemAt s at)
+object-told stage marks aall nall s at small low high known laid valued = opened-object stage marks aall nall s at small low high
+    (open-record false stage marks aall nall s at known laid valued)
 
 pub or-right : (a b : Bool) → b ≡ true → (a || b) ≡ true
 or-right true b h = refl
@@ -90,11 +96,11 @@ or-right false b h = h
 pub differs : (x y : ℕ) (seen : List ℕ) → isIn x seen ≡ false → isIn y seen ≡ true → x ≡ y → ⊥
 differs x y seen no-x has-y e = let f : isIn y seen ≡ false = rw e at no-x in let z : _≡_ {A = Bool} false true = cc in let w : _≡_ {A = ℕ} 0 1 = cc in omega arith
 
-pub once-more : (j x w : ℕ) (seen ws : List ℕ) → 1 ≤ j → x ≡ nameOf w → twiceFrom j seen (w ∷ ws) .index ≡ 0 → twiceFrom (j + 1) (x ∷ seen) ws .index ≡ 0
+pub once-more : (j : ℕ) (t : Item) (seen : List ℕ) (ts : List Item) → 1 ≤ j → twiceFrom j seen (t ∷ ts) ≡ 0 → twiceFrom (j + 1) (itemName t ∷ seen) ts ≡ 0
 unfolding twiceFrom
-once-more j x w seen ws some e once =
-    ⊎-elim (λ (met : isIn (nameOf w) seen ≡ true). absurd (let z : j ≡ 0 = rw met at once in omega arith))
-    (λ (new : isIn (nameOf w) seen ≡ false). rw e (rw new at once)) (true-or-false (isIn (nameOf w) seen))
+once-more j t seen ts some once =
+    ⊎-elim (λ (met : isIn (itemName t) seen ≡ true). absurd (let z : j ≡ 0 = rw met at once in omega arith))
+    (λ (new : isIn (itemName t) seen ≡ false). rw new at once) (true-or-false (isIn (itemName t) seen))
 
 pub self-in : (x : ℕ) (seen : List ℕ) → isIn x (x ∷ seen) ≡ true
 unfolding isIn
@@ -113,46 +119,38 @@ stage-late update stage feature low high =
     let r = either-stage feature stage low high in
     (rw (a, b) (r .0), rw (a, b) (r .1), a)
 
--- ---- names
-module _ (s : List ℕ) (n : ℕ) (framed : frameOf s ≡ Records n) (short : length s ≤ 5242880) where
-  pub name-at : (k : ℕ) → k < n → nameOf (wordFor s (recordAt s k)) ≡ objectName (objectAt s (recordAt s k))
-  unfolding nameAt
-  name-at k h = let fits = record-in s n k (recordAt s k) framed h refl .framed .fits in word-name s (recordAt s k) (omega arith)
+-- ---- names: one met before does not come again
+unseen : (j x : ℕ) (seen : List ℕ) (ts : List Item) → 1 ≤ j → twiceFrom j seen ts ≡ 0 → isIn x seen ≡ true → isIn x (namesOf ts) ≡ false
+unfolding twiceFrom namesOf isIn
+unseen j x seen [] some once in-seen = refl
+unseen j x seen (t ∷ ts) some once in-seen =
+    ⊎-elim (λ (met : isIn (itemName t) seen ≡ true). absurd (let z : j ≡ 0 = rw met at once in omega arith))
+    (λ (new : isIn (itemName t) seen ≡ false).
+    let on : twiceFrom (j + 1) (itemName t ∷ seen) ts ≡ 0 = rw new at once in
+    let there : isIn x (itemName t ∷ seen) ≡ true = or-right (eqb (itemName t) x) (isIn x seen) in-seen in
+    rw (ne-eqb (itemName t) x (differs (itemName t) x seen new in-seen)) (unseen (j + 1) x (itemName t ∷ seen) ts (omega arith) on there))
+    (true-or-false (isIn (itemName t) seen))
 
-  -- a name met before does not come again
-  unseen : (m k j x : ℕ) (seen : List ℕ) → k + m ≡ n → 1 ≤ j → twiceFrom j seen (wordsFrom m s (recordAt s k)) .index ≡ 0 → isIn x seen ≡ true
-      → isIn x (namesOf (objectsFrom m s (recordAt s k))) ≡ false
-  unfolding twiceFrom wordsFrom namesOf objectsFrom isIn
-  unseen zero k j x seen all some once in-seen = refl
-  unseen (suc m) k j x seen all some once in-seen =
-      let at = recordAt s k in
-      let name = name-at k (omega arith) in
-      ⊎-elim (λ (met : isIn (nameOf (wordFor s at)) seen ≡ true). absurd (let z : j ≡ 0 = rw met at once in omega arith))
-      (λ (new : isIn (nameOf (wordFor s at)) seen ≡ false).
-      let on : twiceFrom (j + 1) (nameOf (wordFor s at) ∷ seen) (wordsFrom m s (endOf s at)) .index ≡ 0 = rw new at once in
-      let there : isIn x (nameOf (wordFor s at) ∷ seen) ≡ true = or-right (eqb (nameOf (wordFor s at)) x) (isIn x seen) in-seen in
-      let rest = unseen m (k + 1) (j + 1) x (nameOf (wordFor s at) ∷ seen) (omega arith) (omega arith) (rw (at-next s k at refl) at on) there in
-      rw (at-next s k at refl, ne-eqb (objectName (objectAt s at)) x (differs (objectName (objectAt s at)) x seen (rw name at new) in-seen)) rest)
-      (true-or-false (isIn (nameOf (wordFor s at)) seen))
-
+module _ (s : List ℕ) (n : ℕ) (framed : frameOf s ≡ Records n) where
   -- what is known of a state behind DSPM
   pub objects-told : (marks : List ℕ) (aall nall m k j : ℕ) (seen : List ℕ) (st : State) → ((i : ℕ) → byteAt s i < 256) → k + m ≡ n → 1 ≤ j → 2 ≤ st .stage → st .stage ≤ 3
       → st .aall ≡ aall → st .nall ≡ nall
-      → recordsFault m false marks s k (recordAt s k) st .code ≡ 0 → twiceFrom j seen (wordsFrom m s (recordAt s k)) .index ≡ 0 → Apart aall nall (objectsFrom m s (recordAt s k))
-  unfolding recordsFault twiceFrom wordsFrom objectsFrom passedState nextStage
+      → recordsFault m false marks s k (recordAt s k) st .code ≡ 0 → twiceFrom j seen (itemsFrom m s (recordAt s k)) ≡ 0 → Apart aall nall (itemsFrom m s (recordAt s k))
+  unfolding recordsFault itemsFrom passedState nextStage
   objects-told marks aall nall zero k j seen st small all some low high ea en fault once = apart-none
   objects-told marks aall nall (suc m) k j seen st small all some low high ea en fault once =
       let at = recordAt s k in
       let next = passedState false s at st in
       let known = record-in s n k at framed (omega arith) refl in
       let p = told (layoutFault false (st .stage) marks s at) (valueFault false (st .aall) (st .nall) s at) k (recordsFault m false marks s (k + 1) (endOf s at) next) fault in
-      let here : Good aall nall (objectAt s at) = object-told (st .stage) marks aall nall s at small low high known (p .0) (rw (ea, en) at (p .1)) in
-      let on : twiceFrom (j + 1) (nameOf (wordFor s at) ∷ seen) (wordsFrom m s (endOf s at)) .index ≡ 0 = once-more j (nameOf (wordFor s at)) (wordFor s at) seen (wordsFrom m s (endOf s at)) some refl once in
-      let out = unseen m (k + 1) (j + 1) (nameOf (wordFor s at)) (nameOf (wordFor s at) ∷ seen) (omega arith) (omega arith) (rw (at-next s k at refl) at on) (self-in (nameOf (wordFor s at)) seen) in
+      let here : Good aall nall (itemAt s at) = object-told (st .stage) marks aall nall s at small low high known (p .0) (rw (ea, en) at (p .1)) in
+      let name = itemName (itemAt s at) in
+      let on : twiceFrom (j + 1) (name ∷ seen) (itemsFrom m s (endOf s at)) ≡ 0 = once-more j (itemAt s at) seen (itemsFrom m s (endOf s at)) some once in
+      let out : isIn name (namesOf (itemsFrom m s (endOf s at))) ≡ false = unseen (j + 1) name (name ∷ seen) (itemsFrom m s (endOf s at)) (omega arith) on (self-in name seen) in
       let stage = stage-late false (st .stage) (isFeature s at) low high in
-      let rest = objects-told marks aall nall m (k + 1) (j + 1) (nameOf (wordFor s at) ∷ seen) next small (omega arith) (omega arith) (stage .0) (stage .1) (rw (stage .2) ea) (rw (stage .2) en)
+      let rest = objects-told marks aall nall m (k + 1) (j + 1) (name ∷ seen) next small (omega arith) (omega arith) (stage .0) (stage .1) (rw (stage .2) ea) (rw (stage .2) en)
       (rw (at-next s k at refl) at (p .2)) (rw (at-next s k at refl) at on) in
-      rw (at-next s k at refl) (apart-more here (rw (name-at k (omega arith)) at out) rest)
+      apart-more here out (rw (at-next s k at refl) rest)
 
 -- ---- the header
 pub record DsidTold (update : Bool) (s : List ℕ) (at : ℕ) : Type 0 where
@@ -174,7 +172,8 @@ levels update c h =
     (leb-true _ _ (none-at _ _ (b .0)), leb-true _ _ (none-at _ _ (d .0)))
 
 -- DSSI behind DSID
-dssi-told : (update : Bool) (marks : List ℕ) (seen : List ℕ) (s : List ℕ) (at : ℕ) (a b : Piece) (fs : List Piece) → piecesAt s at ≡ a ∷ b ∷ fs → laidIn update 0 marks DSID fs ≡ true
+dssi-told : (update : Bool) (marks : List ℕ) (seen : List ℕ) (s : List ℕ) (at : ℕ) (a b : Piece) (fs : List Piece) → piecesAt s at ≡ a ∷ b ∷ fs → laidIn update 0 marks DSID fs
+    ≡ true
     → valuedIn update 0 0 DSID seen fs ≡ true
     → (aallAt s at ≤ 1) × (nallAt s at ≤ 1)
 unfolding laidIn valuedIn mayEnd rowOf table aallAt nallAt fieldFault
@@ -183,7 +182,8 @@ dssi-told update marks seen s at a b (f ∷ fs) e laid valued =
     let st = step update 0 marks DSID f fs (omega arith) laid in
     let kind : kindIn f ≡ DSSI = follows-dsid update (kindIn f) (kind-few (f .named)) (st .placing) in
     let long : length (f .content) ≡ 35 = full-dssi (f .content) (rw kind at (st .full)) in
-    let p = both (eqb (fieldFault update 0 0 (kindIn f) (seenBefore DSID (kindIn f) seen) (f .content)) 0) (valuedIn update 0 0 (kindIn f) (seenAfter (kindIn f) (seenBefore DSID (kindIn f) seen) (f .content)) fs) valued in
+    let p = both (eqb (fieldFault update 0 0 (kindIn f) (seenBefore DSID (kindIn f) seen) (f .content)) 0)
+    (valuedIn update 0 0 (kindIn f) (seenAfter (kindIn f) (seenBefore DSID (kindIn f) seen) (f .content)) fs) valued in
     let none : dssiFault update (f .content) ≡ 0 = rw kind at (eqb-true (fieldFault update 0 0 (kindIn f) (seenBefore DSID (kindIn f) seen) (f .content)) 0 (p .0)) in
     let l = levels update (f .content) none in
     let q = fieldAt s at 2 .start in
@@ -211,13 +211,13 @@ dspm-told marks aall nall s at o =
 pub record CellTold (s : List ℕ) (n : ℕ) : Type 0 where
   pub three : 3 ≤ n
   pub good : GoodChart (chartOf s n)
-  pub apart : Apart (aallAt s (recordAt s 1)) (nallAt s (recordAt s 1)) (objectsFrom (n - 3) s (recordAt s 3))
+  pub apart : Apart (aallAt s (recordAt s 1)) (nallAt s (recordAt s 1)) (itemsFrom (n - 3) s (recordAt s 3))
   pub known : Known (contentAt s (recordAt s 1) 1)
 
 pub chart-from : (s marks : List ℕ) (n m : ℕ) → frameOf s ≡ Records n → length s ≤ 5242880 → ((i : ℕ) → byteAt s i < 256) → 1 + m ≡ n
     → recordsFault m false marks s 1 (recordAt s 1) firstState .code ≡ 0 → twiceOf false s n .index ≡ 0
     → CellTold s n
-unfolding recordsFault passedState nextStage twiceOf nameWords firstItem chartOf headerOf
+unfolding recordsFault passedState nextStage twiceOf firstTwice firstItem chartOf headerOf heldItems
 chart-from s marks n zero framed short small all fault once = absurd (omega arith)
 chart-from s marks n (suc zero) framed short small all fault once =
     let a = recordAt s 1 in
@@ -230,14 +230,26 @@ chart-from s marks n (suc (suc m)) framed short small all fault once =
     let s2 = passedState false s b s1 in
     let less : n - 3 ≡ m = omega arith in
     let p = told (layoutFault false 0 marks s a) (valueFault false 0 0 s a) 1 (recordsFault (suc m) false marks s 2 (endOf s a) s1) fault in
-    let q = told (layoutFault false 1 marks s b) (valueFault false (aallAt s a) (nallAt s a) s b) 2 (recordsFault m false marks s 3 (endOf s b) s2) (rw (at-next s 1 a refl) at (p .2)) in
+    let q = told (layoutFault false 1 marks s b) (valueFault false (aallAt s a) (nallAt s a) s b) 2 (recordsFault m false marks s 3 (endOf s b) s2)
+    (rw (at-next s 1 a refl) at (p .2)) in
     let d = dsid-told false marks s a (open-record false 0 marks 0 0 s a (record-in s n 1 a framed (omega arith) refl) (p .0) (p .1)) in
     let e = dspm-told marks (aallAt s a) (nallAt s a) s b (open-record false 1 marks (aallAt s a) (nallAt s a) s b (record-in s n 2 b framed (omega arith) refl) (q .0) (q .1)) in
-    let t = objects-told s n framed short marks (aallAt s a) (nallAt s a) m 3 3 [] s2 small (omega arith) (omega arith) (omega arith) (omega arith) refl refl (rw (at-next s 2 b refl) at (q .2)) (rw less at once) in
+    let t = objects-told s n framed marks (aallAt s a) (nallAt s a) m 3 3 [] s2 small (omega arith) (omega arith) (omega arith) (omega arith) refl refl
+    (rw (at-next s 2 b refl) at (q .2)) (rw less at once) in
     let r = dsid-back (contentAt s a 1) (d .laid) (d .fine) in
     record {
       three = omega arith;
-      good = record { dsid-laid = r .laid; dsid-fine = r .fine; dsid-back = r .back; dspm-laid = e .0; dspm-fine = e .1; aall-low = d .aall-low; nall-low = d .nall-low; items = rw less (order-ordered t) };
+      good = record {
+        dsid-laid = r .laid;
+        dsid-fine = r .fine;
+        dsid-back = r .back;
+        dspm-laid = e .0;
+        dspm-fine = e .1;
+        aall-low = d .aall-low;
+        nall-low = d .nall-low;
+        items =
+            rw less (order-ordered t);
+      };
       apart = rw less t;
       known = dsid-known (contentAt s a 1) (d .laid) (d .fine);
     }
@@ -248,5 +260,6 @@ pub cell-told : (s : List ℕ) (n : ℕ) → frameOf s ≡ Records n → length 
 unfolding readFault
 cell-told s n framed short small fault once =
     ⊎-elim (λ (e : eqb (length (describedOf s)) 0 ≡ true). absurd (let z : _≡_ {A = ℕ} 4 0 = rw e at fault in omega arith))
-    (λ (e : eqb (length (describedOf s)) 0 ≡ false). chart-from s (describedOf s) n (n - 1) framed short small (let l = last-ends s n framed .0 in omega arith) (rw e at fault) once)
+    (λ (e : eqb (length (describedOf s)) 0 ≡ false). chart-from s (describedOf s) n (n - 1) framed short small (let l = last-ends s n framed .0 in omega arith)
+    (rw e at fault) once)
     (true-or-false (eqb (length (describedOf s)) 0))

@@ -13,27 +13,28 @@ use Rattle.octets.proofs.Tests.{all3}
 use Rattle.records.specs.Pieces.{Piece}
 use Rattle.records.specs.Written.{AllFit}
 use Rattle.records.specs.Written.AllFit.{fit-none, fit-more}
-use Rattle.objects.specs.Object.{Object, isFeature, objectPieces, featurePieces, vectorPieces}
+use Rattle.items.specs.Item.{isFeature, Item}
+use Rattle.itemfields.specs.Fields.{itemPieces, featurePieces, vectorPieces}
 use Rattle.held.specs.Chart.{Chart}
-use Rattle.held.specs.Held.{objectsPieces, dsidPieces, dspmPieces, recordsOf, heldOf}
+use Rattle.held.specs.Held.{itemsPieces, dsidPieces, dspmPieces, recordsOf, heldOf}
 use Rattle.held.specs.Limits.{longestOf, recordCount, fits, Fits}
 
 -- ---- every record has a field
-object-some : (n : ℕ) (t : Object) → 1 ≤ length (objectPieces n t)
-unfolding objectPieces featurePieces vectorPieces
+object-some : (n : ℕ) (t : Item) → 1 ≤ length (itemPieces n t)
+unfolding itemPieces featurePieces vectorPieces
 object-some n t =
     ⊎-elim (λ (e : isFeature (t .rcnm) ≡ true). rw e (omega arith)) (λ (e : isFeature (t .rcnm) ≡ false). rw e (omega arith)) (true-or-false (isFeature (t .rcnm)))
 
-objects-fit : (n : ℕ) (ts : List Object) → longestOf (objectsPieces n ts) ≤ 99999 → AllFit (objectsPieces n ts)
-unfolding longestOf objectsPieces
+objects-fit : (n : ℕ) (ts : List Item) → longestOf (itemsPieces n ts) ≤ 99999 → AllFit (itemsPieces n ts)
+unfolding longestOf itemsPieces
 objects-fit n [] h = fit-none
-objects-fit n (t ∷ ts) h = fit-more {r = objectPieces n t} (record { some = object-some n t; small = omega arith }) (objects-fit (n + 1) ts (omega arith))
+objects-fit n (t ∷ ts) h = fit-more {r = itemPieces n t} (record { some = object-some n t; small = omega arith }) (objects-fit (n + 1) ts (omega arith))
 
 records-fit : (c : Chart) → longestOf (recordsOf c) ≤ 99999 → AllFit (recordsOf c)
 unfolding longestOf recordsOf dsidPieces dspmPieces
 records-fit c h =
     fit-more {r = dsidPieces c} (record { some = omega arith; small = omega arith })
-    (fit-more {r = dspmPieces c} (record { some = omega arith; small = omega arith }) (objects-fit 3 (c .objects) (omega arith)))
+    (fit-more {r = dspmPieces c} (record { some = omega arith; small = omega arith }) (objects-fit 3 (c .items) (omega arith)))
 
 longest-fits : {rs : List (List Piece)} → AllFit rs → longestOf rs ≤ 99999
 unfolding longestOf

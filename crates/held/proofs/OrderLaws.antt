@@ -9,31 +9,31 @@ use lib.Dec.{eqb, leb}
 use borrow.Author.Tests.{le-leb, lt-leb, eqb-false, ne-eqb}
 use Rattle.octets.proofs.Cases.{true-or-false, le-or-lt}
 use Rattle.words.specs.Order.{isIn}
-use Rattle.objects.specs.Object.{Object}
-use Rattle.held.specs.Chart.{objectName, insertObject, heldOrder}
+use Rattle.items.specs.Item.{itemName, Item}
+use Rattle.names.specs.Held.{insertBy, orderBy, heldOrder}
 use Rattle.held.specs.Good.{Good, Ordered}
 use Rattle.held.specs.Good.Ordered.{ordered-none, ordered-more}
 
 -- what is in order stays as it is
-insert-first : {aall nall low : ℕ} (t : Object) {ts : List Object} → objectName t < low → Ordered aall nall low ts → insertObject t ts ≡ t ∷ ts
-unfolding insertObject
+insert-first : {aall nall low : ℕ} (t : Item) {ts : List Item} → itemName t < low → Ordered aall nall low ts → insertBy itemName t ts ≡ t ∷ ts
+unfolding insertBy
 insert-first t less ordered-none = refl
-insert-first t less (ordered-more {t = u} le good more) = rw (le-leb (objectName t) (objectName u) (omega arith))
+insert-first t less (ordered-more {t = u} le good more) = rw (le-leb (itemName t) (itemName u) (omega arith))
 
-pub ordered-stays : {aall nall low : ℕ} {ts : List Object} → Ordered aall nall low ts → heldOrder ts ≡ ts
-unfolding heldOrder
+pub ordered-stays : {aall nall low : ℕ} {ts : List Item} → Ordered aall nall low ts → heldOrder ts ≡ ts
+unfolding orderBy
 ordered-stays ordered-none = refl
 ordered-stays (ordered-more {t = t} {ts = ts} le good more) = rw (ordered-stays more) (insert-first t (omega arith) more)
 
 -- ---- the names of objects
-unfoldable pub namesOf : List Object → List ℕ
+unfoldable pub namesOf : List Item → List ℕ
 namesOf [] = []
-namesOf (t ∷ ts) = objectName t ∷ namesOf ts
+namesOf (t ∷ ts) = itemName t ∷ namesOf ts
 
 -- each good, and no name twice
-pub data Apart (aall nall : ℕ) : List Object → Type 0 where
+pub data Apart (aall nall : ℕ) : List Item → Type 0 where
   apart-none : Apart aall nall []
-  apart-more : {t : Object} {ts : List Object} → Good aall nall t → isIn (objectName t) (namesOf ts) ≡ false → Apart aall nall ts → Apart aall nall (t ∷ ts)
+  apart-more : {t : Item} {ts : List Item} → Good aall nall t → isIn (itemName t) (namesOf ts) ≡ false → Apart aall nall ts → Apart aall nall (t ∷ ts)
 
 or-false : (a b : Bool) → (a || b) ≡ false → (a ≡ false) × (b ≡ false)
 or-false false b h = (refl, h)
@@ -44,45 +44,46 @@ either-swap true true c = refl
 either-swap true false c = refl
 either-swap false b c = refl
 
-insert-names : (x : ℕ) (t : Object) (ts : List Object) → isIn x (namesOf (insertObject t ts)) ≡ (eqb (objectName t) x || isIn x (namesOf ts))
-unfolding insertObject namesOf isIn
+insert-names : (x : ℕ) (t : Item) (ts : List Item) → isIn x (namesOf (insertBy itemName t ts)) ≡ (eqb (itemName t) x || isIn x (namesOf ts))
+unfolding insertBy namesOf isIn
 insert-names x t [] = refl
 insert-names x t (u ∷ us) =
-    ⊎-elim (λ (h : leb (objectName t) (objectName u) ≡ true). rw h)
-    (λ (h : leb (objectName t) (objectName u) ≡ false). rw (h, insert-names x t us) (either-swap (eqb (objectName u) x) (eqb (objectName t) x) (isIn x (namesOf us))))
-    (true-or-false (leb (objectName t) (objectName u)))
+    ⊎-elim (λ (h : leb (itemName t) (itemName u) ≡ true). rw h)
+    (λ (h : leb (itemName t) (itemName u) ≡ false). rw (h, insert-names x t us) (either-swap (eqb (itemName u) x) (eqb (itemName t) x) (isIn x (namesOf us))))
+    (true-or-false (leb (itemName t) (itemName u)))
 
-pub order-names : (x : ℕ) (ts : List Object) → isIn x (namesOf (heldOrder ts)) ≡ isIn x (namesOf ts)
-unfolding heldOrder namesOf isIn
+pub order-names : (x : ℕ) (ts : List Item) → isIn x (namesOf (heldOrder ts)) ≡ isIn x (namesOf ts)
+unfolding orderBy namesOf isIn
 order-names x [] = refl
-order-names x (t ∷ ts) = insert-names x t (heldOrder ts) ∙ ap (λ (b : Bool). eqb (objectName t) x || b) (order-names x ts)
+order-names x (t ∷ ts) = insert-names x t (heldOrder ts) ∙ ap (λ (b : Bool). eqb (itemName t) x || b) (order-names x ts)
 
-insert-ordered : {aall nall low : ℕ} (t : Object) {ts : List Object} → low ≤ objectName t → Good aall nall t → isIn (objectName t) (namesOf ts) ≡ false
-    → Ordered aall nall low ts → Ordered aall nall low (insertObject t ts)
-unfolding insertObject namesOf isIn
+insert-ordered : {aall nall low : ℕ} (t : Item) {ts : List Item} → low ≤ itemName t → Good aall nall t → isIn (itemName t) (namesOf ts) ≡ false
+    → Ordered aall nall low ts → Ordered aall nall low (insertBy itemName t ts)
+unfolding insertBy namesOf isIn
 insert-ordered t low good out ordered-none = ordered-more low good ordered-none
 insert-ordered t low good out (ordered-more {t = u} {ts = us} le gu more) =
-    let p = or-false (eqb (objectName u) (objectName t)) (isIn (objectName t) (namesOf us)) out in
-    let ne = eqb-false (objectName u) (objectName t) (p .0) in
-    ⊎-elim (λ (h : objectName t ≤ objectName u). rw (le-leb (objectName t) (objectName u) h) (ordered-more low good (ordered-more {low = objectName t + 1} (differ (objectName u) (objectName t) ne h) gu more)))
-    (λ (h : objectName u < objectName t). rw (lt-leb (objectName t) (objectName u) h) (ordered-more le gu (insert-ordered t (omega arith) good (p .1) more)))
-    (le-or-lt (objectName t) (objectName u))
+    let p = or-false (eqb (itemName u) (itemName t)) (isIn (itemName t) (namesOf us)) out in
+    let ne = eqb-false (itemName u) (itemName t) (p .0) in
+    ⊎-elim (λ (h : itemName t ≤ itemName u). rw (le-leb (itemName t) (itemName u) h)
+    (ordered-more low good (ordered-more {low = itemName t + 1} (differ (itemName u) (itemName t) ne h) gu more)))
+    (λ (h : itemName u < itemName t). rw (lt-leb (itemName t) (itemName u) h) (ordered-more le gu (insert-ordered t (omega arith) good (p .1) more)))
+    (le-or-lt (itemName t) (itemName u))
   where
     differ : (a b : ℕ) → (a ≡ b → ⊥) → b ≤ a → b + 1 ≤ a
     differ a b ne h = omega arith
 
 -- objects of different names, put in order
-pub order-ordered : {aall nall : ℕ} {ts : List Object} → Apart aall nall ts → Ordered aall nall 0 (heldOrder ts)
-unfolding heldOrder
+pub order-ordered : {aall nall : ℕ} {ts : List Item} → Apart aall nall ts → Ordered aall nall 0 (heldOrder ts)
+unfolding orderBy
 order-ordered apart-none = ordered-none
-order-ordered (apart-more {t = t} {ts = ts} good out more) = insert-ordered t (omega arith) good (order-names (objectName t) ts ∙ out) (order-ordered more)
+order-ordered (apart-more {t = t} {ts = ts} good out more) = insert-ordered t (omega arith) good (order-names (itemName t) ts ∙ out) (order-ordered more)
 
 -- objects in order have different names
-names-above : {aall nall low : ℕ} (x : ℕ) {ts : List Object} → x < low → Ordered aall nall low ts → isIn x (namesOf ts) ≡ false
+names-above : {aall nall low : ℕ} (x : ℕ) {ts : List Item} → x < low → Ordered aall nall low ts → isIn x (namesOf ts) ≡ false
 unfolding namesOf isIn
 names-above x less ordered-none = refl
-names-above x less (ordered-more {t = t} le good more) = rw (ne-eqb (objectName t) x (λ e. omega arith), names-above x (omega arith) more)
+names-above x less (ordered-more {t = t} le good more) = rw (ne-eqb (itemName t) x (λ e. omega arith), names-above x (omega arith) more)
 
-pub ordered-apart : {aall nall low : ℕ} {ts : List Object} → Ordered aall nall low ts → Apart aall nall ts
+pub ordered-apart : {aall nall low : ℕ} {ts : List Item} → Ordered aall nall low ts → Apart aall nall ts
 ordered-apart ordered-none = apart-none
-ordered-apart (ordered-more {t = t} le good more) = apart-more good (names-above (objectName t) (omega arith) more) (ordered-apart more)
+ordered-apart (ordered-more {t = t} le good more) = apart-more good (names-above (itemName t) (omega arith) more) (ordered-apart more)

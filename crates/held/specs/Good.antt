@@ -1,23 +1,24 @@
--- What is known of the chart of a readable cell: enough that its held form is read back. Assumes nothing.
+-- What is known of the chart of a readable cell: enough that its held form is read back. It serves the proofs, and nothing here need be believed.
+-- Assumes nothing.
 use Prim.Native.Nat.{ℕ, _+_, _≤_}
 use mathlib.Core.Bool.{true, false}
 use mathlib.Core.List.{List, [], _∷_}
 use mathlib.Core.Path.{_≡_}
 use Rattle.dataset.specs.Dsid.{dsidLaid, dsidFault}
-use Rattle.values.specs.Dspm.{dspmLaid, dspmFault}
-use Rattle.objects.specs.Object.{Object}
-use Rattle.objects.specs.Good.{Vector, Feature}
+use Rattle.headvalues.specs.Dspm.{dspmLaid, dspmFault}
+use Rattle.items.specs.Item.{Item, itemName}
+use Rattle.itemfields.specs.Good.{Vector, Feature}
 use Rattle.header.specs.Dsid.{dsidOf, dsidBytes}
-use Rattle.held.specs.Chart.{Chart, objectName}
+use Rattle.held.specs.Chart.{Chart}
 
-pub data Good (aall nall : ℕ) (t : Object) : Type 0 where
+pub data Good (aall nall : ℕ) (t : Item) : Type 0 where
   a-vector : Vector aall nall t → Good aall nall t
   a-feature : Feature aall nall t → Good aall nall t
 
 -- "vectors by class 110, 120, 130, then features, RCID ascending": each good, and named from `low` on
-pub data Ordered (aall nall : ℕ) : ℕ → List Object → Type 0 where
+pub data Ordered (aall nall : ℕ) : ℕ → List Item → Type 0 where
   ordered-none : {low : ℕ} → Ordered aall nall low []
-  ordered-more : {low : ℕ} {t : Object} {ts : List Object} → low ≤ objectName t → Good aall nall t → Ordered aall nall (objectName t + 1) ts → Ordered aall nall low (t ∷ ts)
+  ordered-more : {low : ℕ} {t : Item} {ts : List Item} → low ≤ itemName t → Good aall nall t → Ordered aall nall (itemName t + 1) ts → Ordered aall nall low (t ∷ ts)
 
 pub record GoodChart (c : Chart) : Type 0 where
   pub dsid-laid : dsidLaid (dsidBytes (c .header .dsid)) ≡ true
@@ -27,4 +28,4 @@ pub record GoodChart (c : Chart) : Type 0 where
   pub dspm-fine : dspmFault (c .header .dspm) ≡ 0
   pub aall-low : c .header .aall ≤ 1
   pub nall-low : c .header .nall ≤ 1
-  pub items : Ordered (c .header .aall) (c .header .nall) 0 (c .objects)
+  pub items : Ordered (c .header .aall) (c .header .nall) 0 (c .items)

@@ -6,29 +6,30 @@ use lib.Dec.{eqb}
 use Rattle.octets.specs.Number.{bytesOf}
 use Rattle.table.specs.Table.{first, DSID, DSSI, DSPM}
 use Rattle.values.specs.Class.{isGeo, isMeta, isCollection}
-use Rattle.names.specs.declared.counts.Tally.{Tally}
+use Rattle.counted.specs.declared.counts.Tally.{Tally}
 use Rattle.records.specs.Pieces.{Piece}
 use Rattle.records.specs.Written.{recordsBytes}
-use Rattle.objects.specs.Object.{Object, piece, objectPieces}
+use Rattle.items.specs.Item.{Item}
+use Rattle.itemfields.specs.Fields.{piece, itemPieces}
 use Rattle.header.specs.First.{firstRecord}
 use Rattle.header.specs.Dsid.{dsidBytes}
 use Rattle.header.specs.Dssi.{dssiBytes}
 use Rattle.held.specs.Chart.{Chart}
 
 -- ---- "true DSSI counts"
-unfoldable pub countIn : (Object → Bool) → List Object → ℕ
+unfoldable pub countIn : (Item → Bool) → List Item → ℕ
 countIn such [] = 0
 countIn such (t ∷ ts) = cond (such t) 1 0 + countIn such ts
 
 -- vectors of this class
-unfoldable pub ofName : ℕ → Object → Bool
+unfoldable pub ofName : ℕ → Item → Bool
 ofName rcnm t = eqb (t .rcnm) rcnm
 
 -- features of an OBJL in this range
-unfoldable pub ofClass : (ℕ → Bool) → Object → Bool
+unfoldable pub ofClass : (ℕ → Bool) → Item → Bool
 ofClass within t = eqb (t .rcnm) 100 && within (t .objl)
 
-unfoldable pub tallyIn : List Object → Tally
+unfoldable pub tallyIn : List Item → Tally
 tallyIn ts = record {
   meta = countIn (ofClass isMeta) ts;
   geo = countIn (ofClass isGeo) ts;
@@ -43,20 +44,20 @@ unfoldable pub dsidPieces : Chart → List Piece
 dsidPieces c =
     piece first (bytesOf 2 1)
     ∷ piece DSID (dsidBytes (c .header .dsid))
-    ∷ piece DSSI (dssiBytes (c .header .aall) (c .header .nall) (tallyIn (c .objects)))
+    ∷ piece DSSI (dssiBytes (c .header .aall) (c .header .nall) (tallyIn (c .items)))
     ∷ []
 
 unfoldable pub dspmPieces : Chart → List Piece
 dspmPieces c = piece first (bytesOf 2 2) ∷ piece DSPM (c .header .dspm) ∷ []
 
 -- the vectors and features, the first with the running number n
-unfoldable pub objectsPieces : ℕ → List Object → List (List Piece)
-objectsPieces n [] = []
-objectsPieces n (t ∷ ts) = objectPieces n t ∷ objectsPieces (n + 1) ts
+unfoldable pub itemsPieces : ℕ → List Item → List (List Piece)
+itemsPieces n [] = []
+itemsPieces n (t ∷ ts) = itemPieces n t ∷ itemsPieces (n + 1) ts
 
 -- those behind record 0
 unfoldable pub recordsOf : Chart → List (List Piece)
-recordsOf c = dsidPieces c ∷ dspmPieces c ∷ objectsPieces 3 (c .objects)
+recordsOf c = dsidPieces c ∷ dspmPieces c ∷ itemsPieces 3 (c .items)
 
 -- ---- "Record 0 is one fixed string .. Then the cell's records"
 abbrev pub heldOf : Chart → List ℕ

@@ -11,11 +11,12 @@ use lib.Seq.{drop-cons, getD-take, take-suc-set, length-take-le}
 use lib.Dec.{leb, eqb}
 use borrow.Author.Tests.{le-leb, lt-leb, eq-eqb, ne-eqb}
 use Rattle.octets.specs.Number.{byteAt}
-use Rattle.octets.specs.Digits.{Number}
+use Rattle.octets.specs.Premises.{Number}
 use Rattle.iso8211.specs.Directory.{tagAt, rowAt, rowWidth, rows, len, position}
-use Rattle.iso8211.specs.Record.{fieldGood, inRow, onward, StepWithin, RowStep, BatchStep}
+use Rattle.iso8211.specs.Record.{fieldGood, inRow}
+use Rattle.iso8211.specs.Premises.{onward, StepWithin, RowStep, BatchStep, Rowed, Due}
 use Rattle.iso8211.specs.Leader.{baseAt, lengthDigits, positionDigits}
-use Rattle.iso8211.specs.Field.{countAt, directoryAt, fieldAt, Rowed, Due}
+use Rattle.iso8211.specs.Field.{countAt, directoryAt, fieldAt}
 use Rattle.iso8211.specs.declared.field.Field.{Field}
 use Rattle.iso8211.specs.declared.directory.Step.{Step}
 use Rattle.iso8211.specs.declared.directory.Step.the-variants.{On, Bad}
@@ -38,7 +39,8 @@ rows-row zero k s l p i h = absurd (omega arith)
 rows-row (suc n) zero s l p i h = rw (native.Mathlib.Nat.zero-mul, add-zero)
 rows-row (suc n) (suc k) s l p i h =
     rows-row n k s l p (i + rowWidth l p) (omega arith)
-    ∙ ap (rowAt s l p) (add-assoc i (rowWidth l p) (k * rowWidth l p) ∙ ap (λ (x : ℕ). i + x) (native.Mathlib.Nat.add-comm (rowWidth l p) (k * rowWidth l p) ∙ sym (suc-mul k (rowWidth l p))))
+    ∙ ap (rowAt s l p) (add-assoc i (rowWidth l p) (k * rowWidth l p)
+    ∙ ap (λ (x : ℕ). i + x) (native.Mathlib.Nat.add-comm (rowWidth l p) (k * rowWidth l p) ∙ sym (suc-mul k (rowWidth l p))))
 
 -- one row more at the end
 rows-grow : (n : ℕ) (s : List ℕ) (l p i : ℕ) → rows (suc n) s l p i ≡ rows n s l p i ++ (rowAt s l p (i + n * rowWidth l p) ∷ [])
@@ -47,7 +49,8 @@ rows-grow zero s l p i = rw (native.Mathlib.Nat.zero-mul, add-zero)
 rows-grow (suc n) s l p i =
     ap (λ (r : List (List ℕ)). rowAt s l p i ∷ r)
     (rows-grow n s l p (i + rowWidth l p)
-    ∙ ap (λ (k : ℕ). rows n s l p (i + rowWidth l p) ++ (rowAt s l p k ∷ [])) (add-assoc i (rowWidth l p) (n * rowWidth l p) ∙ ap (λ (x : ℕ). i + x) (native.Mathlib.Nat.add-comm (rowWidth l p) (n * rowWidth l p) ∙ sym (suc-mul n (rowWidth l p)))))
+    ∙ ap (λ (k : ℕ). rows n s l p (i + rowWidth l p) ++ (rowAt s l p k ∷ []))
+    (add-assoc i (rowWidth l p) (n * rowWidth l p) ∙ ap (λ (x : ℕ). i + x) (native.Mathlib.Nat.add-comm (rowWidth l p) (n * rowWidth l p) ∙ sym (suc-mul n (rowWidth l p)))))
 
 -- the rows of a batch and the rest
 pub rows-split : (n m c : ℕ) (s : List ℕ) (l p i : ℕ) → c ≡ n + m → rows c s l p i ≡ rows n s l p i ++ rows m s l p (i + n * rowWidth l p)
@@ -57,7 +60,8 @@ rows-split (suc n) m zero s l p i e = absurd (omega arith)
 rows-split (suc n) m (suc c) s l p i e =
     ap (λ (r : List (List ℕ)). rowAt s l p i ∷ r)
     (rows-split n m c s l p (i + rowWidth l p) (omega arith)
-    ∙ ap (λ (k : ℕ). rows n s l p (i + rowWidth l p) ++ rows m s l p k) (add-assoc i (rowWidth l p) (n * rowWidth l p) ∙ ap (λ (x : ℕ). i + x) (native.Mathlib.Nat.add-comm (rowWidth l p) (n * rowWidth l p) ∙ sym (suc-mul n (rowWidth l p)))))
+    ∙ ap (λ (k : ℕ). rows n s l p (i + rowWidth l p) ++ rows m s l p k)
+    (add-assoc i (rowWidth l p) (n * rowWidth l p) ∙ ap (λ (x : ℕ). i + x) (native.Mathlib.Nat.add-comm (rowWidth l p) (n * rowWidth l p) ∙ sym (suc-mul n (rowWidth l p)))))
 
 -- ---- batch: one row a turn
 pub row-room : (i k n w long : ℕ) → k < n → i + n * w ≤ long → i + k * w + w ≤ long
@@ -66,7 +70,8 @@ row-room i k n w long h fit = let step : (k + 1) * w ≤ n * w = mul-le-mul-righ
 pub row-next : (i k w at : ℕ) → at ≡ i + k * w → at + w ≡ i + (k + 1) * w
 row-next i k w at e = rw (e, add-one k, suc-mul k w) (omega arith)
 
-pub batch-more : (s : List ℕ) (l p i at k : ℕ) (out : List (List ℕ)) (row : List ℕ) → k < length out → at ≡ i + k * rowWidth l p → take k out ≡ rows k s l p i → row ≡ rowAt s l p at
+pub batch-more : (s : List ℕ) (l p i at k : ℕ) (out : List (List ℕ)) (row : List ℕ) → k < length out → at ≡ i + k * rowWidth l p → take k out ≡ rows k s l p i
+    → row ≡ rowAt s l p at
     → take (k + 1) (set out k row) ≡ rows (k + 1) s l p i
 batch-more s l p i at k out row h e so r = rw (add-one k, take-suc-set out k row h, so, rows-grow k s l p i, r, e)
 
@@ -75,7 +80,8 @@ in-row-end : (s : List ℕ) (body size due : ℕ) → inRow s body size [] due �
 unfolding inRow
 in-row-end s body size due = refl
 
-pub in-row-next : (s : List ℕ) (body size due : ℕ) (row : List ℕ) (more : List (List ℕ)) → inRow s body size (row ∷ more) due ≡ (fieldGood s body size due row && inRow s body size more (due + len row))
+pub in-row-next : (s : List ℕ) (body size due : ℕ) (row : List ℕ) (more : List (List ℕ)) → inRow s body size (row ∷ more) due
+    ≡ (fieldGood s body size due row && inRow s body size more (due + len row))
 unfolding inRow
 in-row-next s body size due row more = refl
 
@@ -108,7 +114,8 @@ by-row : (s : List ℕ) (body size due long place : ℕ) (row : List ℕ) → le
 unfolding fieldGood
 by-row s body size due long place row e f = rw (e, f)
 
-row-bad : (s : List ℕ) (body size due long place : ℕ) → (eqb place due && (leb 1 long && (leb (due + long) size && eqb (byteAt s (body + (due + long) - 1)) 30))) ≡ false → RowStep s body size long place due Bad
+row-bad : (s : List ℕ) (body size due long place : ℕ) → (eqb place due && (leb 1 long && (leb (due + long) size && eqb (byteAt s (body + (due + long) - 1)) 30))) ≡ false
+    → RowStep s body size long place due Bad
 unfolding onward
 row-bad s body size due long place h = record {
   is = λ row more e f. in-row-next s body size due row more ∙ rw (by-row s body size due long place row e f ∙ h);
@@ -150,8 +157,10 @@ rowing-start s body size some due = record { is = λ more. refl }
 
 module _ {s : List ℕ} {body size due k at n long place : ℕ} (batch : List (List ℕ)) (so : Rowing s body size (take n batch) due k at) (here : k < n) (fit : n ≤ length batch)
     (e : len (getD batch k []) ≡ long) (f : position (getD batch k []) ≡ place) where
-  onto : {r : Step} → RowStep s body size long place at r → (more : List (List ℕ)) → inRow s body size (take n batch ++ more) due ≡ onward s body size (drop (k + 1) (take n batch) ++ more) r
-  onto step more = so .is more ∙ ap (λ (x : List (List ℕ)). inRow s body size (x ++ more) at) (peel batch k n here fit) ∙ step .is (getD batch k []) (drop (k + 1) (take n batch) ++ more) e f
+  onto : {r : Step} → RowStep s body size long place at r → (more : List (List ℕ)) → inRow s body size (take n batch ++ more) due ≡ onward s body size
+      (drop (k + 1) (take n batch) ++ more) r
+  onto step more = so .is more ∙ ap (λ (x : List (List ℕ)). inRow s body size (x ++ more) at) (peel batch k n here fit)
+      ∙ step .is (getD batch k []) (drop (k + 1) (take n batch) ++ more) e f
 
   pub rowing-bad : {r : Step} → RowStep s body size long place at r → r ≡ Bad → BatchStep s body size (take n batch) due Bad
   unfolding onward
@@ -165,7 +174,8 @@ pub step-most : {s : List ℕ} {body size long place due : ℕ} {r : Step} {next
 unfolding StepWithin
 step-most step told = (rw told at step) .within
 
-pub rowing-end : {s : List ℕ} {body size : ℕ} {due at : ℕ} (k n : ℕ) (batch : List (List ℕ)) → n ≤ k → at ≤ size → Rowing s body size (take n batch) due k at → BatchStep s body size (take n batch) due (On at)
+pub rowing-end : {s : List ℕ} {body size : ℕ} {due at : ℕ} (k n : ℕ) (batch : List (List ℕ)) → n ≤ k → at ≤ size → Rowing s body size (take n batch) due k at
+    → BatchStep s body size (take n batch) due (On at)
 unfolding onward
 rowing-end {s} {body} {size} {due} {at} k n batch h w so = record {
   is = λ more. so .is more ∙ ap (λ (x : List (List ℕ)). inRow s body size (x ++ more) at) (drop-of-length-le (take n batch) {i = k} (rw length-take (omega arith)));

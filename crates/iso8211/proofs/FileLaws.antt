@@ -10,7 +10,8 @@ use lib.ListN.{length}
 use lib.Dec.{eqb}
 use borrow.Author.Tests.{eq-eqb, ne-eqb}
 use Rattle.octets.proofs.Cases.{true-or-false}
-use Rattle.iso8211.specs.Record.{recordGood, endOf, goodEnd}
+use Rattle.iso8211.specs.Record.{recordGood, endOf}
+use Rattle.iso8211.specs.Premises.{goodEnd}
 use Rattle.iso8211.specs.File.{framedFrom, frameOf}
 use Rattle.iso8211.specs.declared.file.Framed.{Framed}
 use Rattle.iso8211.specs.declared.file.Framed.the-variants.{Records, Broken}
@@ -33,7 +34,8 @@ end-some first s at e is z =
     ⊎-elim (λ (g : recordGood first s at ≡ true). (g, is ∙ rw g))
     (λ (g : recordGood first s at ≡ false). absurd (z (is ∙ rw g))) (true-or-false (recordGood first s at))
 
-framed-next : (f : ℕ) (s : List ℕ) (at k : ℕ) → recordGood (eqb k 0) s at ≡ true → eqb (endOf s at) (length s) ≡ false → framedFrom (suc f) s at k ≡ framedFrom f s (endOf s at) (k + 1)
+framed-next : (f : ℕ) (s : List ℕ) (at k : ℕ) → recordGood (eqb k 0) s at ≡ true → eqb (endOf s at) (length s) ≡ false → framedFrom (suc f) s at k ≡ framedFrom f s (endOf s at)
+    (k + 1)
 unfolding framedFrom
 framed-next f s at k good more = rw (good, more)
 

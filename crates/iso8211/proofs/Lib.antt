@@ -3,5 +3,3 @@ pub mod DirectoryLaws
 pub mod RecordLaws
 pub mod FileLaws
 pub mod Promise
-pub mod SameLaws
-pub mod DescriptiveLaws

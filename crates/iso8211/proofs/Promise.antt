@@ -15,9 +15,10 @@ use Rattle.octets.specs.Number.{byteAt}
 use Rattle.octets.proofs.Cases.{eq-or-ne}
 use Rattle.octets.proofs.Tests.{both, all4}
 use Rattle.iso8211.specs.Leader.{sizeAt, baseAt, lengthDigits, positionDigits}
-use Rattle.iso8211.specs.Directory.{rows, len, position}
+use Rattle.iso8211.specs.Directory.{len, position}
 use Rattle.iso8211.specs.Record.{fieldGood, inRow, recordGood, endOf}
-use Rattle.iso8211.specs.Field.{countAt, directoryAt, fieldAt, Headed, FramedAt, FieldIn, RecordIn, FieldsIn, Due}
+use Rattle.iso8211.specs.Field.{countAt, directoryAt, fieldAt, Headed, FieldIn, FieldsIn}
+use Rattle.iso8211.specs.Premises.{FramedAt, RecordIn, Due}
 use Rattle.iso8211.specs.File.{framedFrom, frameOf, recordAt}
 use Rattle.iso8211.specs.declared.field.Field.{Field}
 use Rattle.iso8211.specs.declared.file.Framed.{Framed}

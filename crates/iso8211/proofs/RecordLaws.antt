@@ -12,8 +12,9 @@ use Rattle.octets.specs.Number.{byteAt}
 use Rattle.octets.proofs.Tests.{told-no, told-yes, both, all3, all4}
 use Rattle.iso8211.specs.Leader.{sizeAt, baseAt, lengthDigits, positionDigits, kindGood, sizeGood, leaderGood}
 use Rattle.iso8211.specs.Directory.{rowWidth, rows}
-use Rattle.iso8211.specs.Record.{inRow, onward, StepWithin, BatchStep, bodyGood, recordGood, goodEnd, Led}
-use Rattle.iso8211.specs.Field.{countAt, directoryAt, FramedAt}
+use Rattle.iso8211.specs.Record.{inRow, bodyGood, recordGood, Led}
+use Rattle.iso8211.specs.Premises.{onward, StepWithin, BatchStep, goodEnd, FramedAt}
+use Rattle.iso8211.specs.Field.{countAt, directoryAt}
 use Rattle.iso8211.specs.declared.directory.Step.{Step}
 use Rattle.iso8211.specs.declared.directory.Step.the-variants.{On, Bad}
 use Rattle.iso8211.proofs.DirectoryLaws.{rows-split, rows-none}
@@ -30,7 +31,8 @@ module _ {s : List ℕ} {l p body size : ℕ} {v : Bool} {left at due : ℕ} (so
     (taken : take n batch ≡ rows n s l p at) where
   batched : {r : Step} → BatchStep s body size (take n batch) due r → v ≡ onward s body size (rows (left - n) s l p (at + n * rowWidth l p)) r
   batched step =
-      so .is ∙ ap (λ (x : List (List ℕ)). inRow s body size x due) (rows-split n (left - n) left s l p at (omega arith) ∙ ap (λ (x : List (List ℕ)). x ++ rows (left - n) s l p (at + n * rowWidth l p)) (sym taken))
+      so .is ∙ ap (λ (x : List (List ℕ)). inRow s body size x due)
+      (rows-split n (left - n) left s l p at (omega arith) ∙ ap (λ (x : List (List ℕ)). x ++ rows (left - n) s l p (at + n * rowWidth l p)) (sym taken))
       ∙ step .is (rows (left - n) s l p (at + n * rowWidth l p))
 
   pub left-bad : {r : Step} → BatchStep s body size (take n batch) due r → r ≡ Bad → false ≡ v
@@ -65,7 +67,8 @@ led first s at r e h =
     let good = told-yes r (leaderGood first s at) e h in
     let b20 = byteAt s (at + 20) in
     let b21 = byteAt s (at + 21) in
-    let p = all4 (leb (at + 24) (length s)) (kindGood first s at) (leb 49 b20 && leb b20 57) ((leb 49 b21 && leb b21 57) && (eqb (byteAt s (at + 22)) 48 && eqb (byteAt s (at + 23)) 52)) good in
+    let p = all4 (leb (at + 24) (length s)) (kindGood first s at) (leb 49 b20 && leb b20 57)
+    ((leb 49 b21 && leb b21 57) && (eqb (byteAt s (at + 22)) 48 && eqb (byteAt s (at + 23)) 52)) good in
     let l = both (leb 49 b20) (leb b20 57) (p .2) in
     let q = both (leb 49 b21 && leb b21 57) (eqb (byteAt s (at + 22)) 48 && eqb (byteAt s (at + 23)) 52) (p .3) in
     let m = both (leb 49 b21) (leb b21 57) (q .0) in

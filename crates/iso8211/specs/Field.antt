@@ -4,11 +4,10 @@ use mathlib.Core.List.{List, []}
 use mathlib.Core.Path.{_≡_}
 use lib.ListN.{length, getD}
 use Rattle.octets.specs.Number.{byteAt}
-use Rattle.iso8211.specs.Leader.{sizeAt, baseAt, lengthDigits, positionDigits}
+use Rattle.iso8211.specs.Leader.{baseAt, lengthDigits, positionDigits}
 use Rattle.iso8211.specs.Directory.{rowWidth, rows, tag, len, position}
-use Rattle.iso8211.specs.Record.{endOf, Led}
+use Rattle.iso8211.specs.Record.{Led}
 use Rattle.iso8211.specs.declared.field.Field.{Field}
-use Rattle.iso8211.specs.declared.field.Head.{Head}
 
 -- how many fields the record at `at` has
 unfoldable pub countAt : List ℕ → ℕ → ℕ
@@ -35,41 +34,12 @@ pub record Headed (s : List ℕ) (at : ℕ) : Type 0 where
   pub whole : 25 + countAt s at * rowWidth (lengthDigits s at) (positionDigits s at) ≡ baseAt s at
   pub some : 1 ≤ countAt s at
 
--- what is known of a record whose framing is good
-pub record FramedAt (s : List ℕ) (at : ℕ) : Type 0 where
-  pub headed : Headed s at
-  pub fits : at + sizeAt s at ≤ length s
-  pub small : sizeAt s at ≤ 99999
-  pub high : baseAt s at ≤ sizeAt s at
-
 -- what is known of a field of a record whose fields end by `end`: it lies behind the directory, has a byte at least, and its last is 1E
 pub record FieldIn (s : List ℕ) (at end : ℕ) (f : Field) : Type 0 where
   pub after : at + baseAt s at ≤ f .start
   pub long : 1 ≤ f .length
   pub within : f .start + f .length ≤ end
   pub ends : byteAt s (f .start + f .length - 1) ≡ 30
-
--- h has the numbers of the leader of such a record that reading its fields takes
-pub record HeadOf (s : List ℕ) (at : ℕ) (h : Head) : Type 0 where
-  pub headed : Headed s at
-  pub base : h .base ≡ baseAt s at
-  pub lengths : h .lengths ≡ lengthDigits s at
-  pub positions : h .positions ≡ positionDigits s at
-  pub count : h .count ≡ countAt s at
-
--- row k is one of the directory's, with l digits of length and p of position
-pub record Rowed (s : List ℕ) (at l p k : ℕ) : Type 0 where
-  pub headed : Headed s at
-  pub lengths : l ≡ lengthDigits s at
-  pub positions : p ≡ positionDigits s at
-  pub below : k < countAt s at
-
--- what is known of a record whose framing is good, and of its fields: "Field positions start at 0, follow without gaps"
-pub record RecordIn (s : List ℕ) (at : ℕ) : Type 0 where
-  pub framed : FramedAt s at
-  pub fields : (j : ℕ) → j < countAt s at → FieldIn s at (endOf s at) (fieldAt s at j)
-  pub front : fieldAt s at 0 .start ≡ at + baseAt s at
-  pub gapless : (j : ℕ) → j + 1 < countAt s at → fieldAt s at (j + 1) .start ≡ fieldAt s at j .start + fieldAt s at j .length
 
 -- the same of a record by its directory alone, which may be longer than its leader can say: its fields end by `end`
 pub record FieldsIn (s : List ℕ) (at : ℕ) : Type 0 where
@@ -80,7 +50,3 @@ pub record FieldsIn (s : List ℕ) (at : ℕ) : Type 0 where
   pub fields : (j : ℕ) → j < countAt s at → FieldIn s at end (fieldAt s at j)
   pub front : fieldAt s at 0 .start ≡ at + baseAt s at
   pub gapless : (j : ℕ) → j + 1 < countAt s at → fieldAt s at (j + 1) .start ≡ fieldAt s at j .start + fieldAt s at j .length
-
--- x is where field j starts, if there is one
-pub record Due (s : List ℕ) (at j x : ℕ) : Type 0 where
-  pub is : j < countAt s at → x ≡ fieldAt s at j .start

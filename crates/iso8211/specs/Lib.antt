@@ -4,5 +4,4 @@ pub mod Directory
 pub mod Record
 pub mod File
 pub mod Field
-pub mod Same
-pub mod Descriptive
+pub mod Premises

@@ -1,15 +1,12 @@
 -- A record whose framing is good. Assumes nothing.
 use Prim.Native.Nat.{ℕ, _+_, _-_, _/_, _%_, _≤_}
-use mathlib.Core.Bool.{Bool, false, cond, _&&_}
-use mathlib.Core.List.{List, [], _∷_, _++_}
-use mathlib.Core.Path.{_≡_}
+use mathlib.Core.Bool.{Bool, _&&_}
+use mathlib.Core.List.{List, [], _∷_}
 use lib.ListN.{length}
 use lib.Dec.{leb, eqb}
 use Rattle.octets.specs.Number.{byteAt}
 use Rattle.iso8211.specs.Leader.{sizeAt, baseAt, lengthDigits, positionDigits, leaderGood}
 use Rattle.iso8211.specs.Directory.{rowWidth, rows, len, position}
-use Rattle.iso8211.specs.declared.directory.Step.{Step}
-use Rattle.iso8211.specs.declared.directory.Step.the-variants.{On, Bad}
 
 -- "Field positions start at 0, follow without gaps and fill the record; each length is at least 1 and each field ends in 1E":
 -- one field, due at `due` in the `size` bytes of fields that start at `body`
@@ -21,26 +18,6 @@ fieldGood s body size due row =
 unfoldable pub inRow : List ℕ → ℕ → ℕ → List (List ℕ) → ℕ → Bool
 inRow s body size [] due = eqb due size
 inRow s body size (row ∷ more) due = fieldGood s body size due row && inRow s body size more (due + len row)
-
--- what the rest of the fields makes of a step's answer: where the next field is due, or that one was bad
-unfoldable pub onward : List ℕ → ℕ → ℕ → List (List ℕ) → Step → Bool
-onward s body size more (On due) = inRow s body size more due
-onward s body size more Bad = false
-
--- the place where the next field is due lies within the fields
-unfoldable pub StepWithin : ℕ → Step → Type 0
-StepWithin size (On due) = due ≤ size
-StepWithin size Bad = Unit {0}
-
--- r is what judging the field of a row of this length and position answers, whatever rows come after it
-pub record RowStep (s : List ℕ) (body size long place due : ℕ) (r : Step) : Type 0 where
-  pub is : (row : List ℕ) (more : List (List ℕ)) → len row ≡ long → position row ≡ place → inRow s body size (row ∷ more) due ≡ onward s body size more r
-  pub within : StepWithin size r
-
--- r is what judging the fields of these rows answers, whatever rows come after them
-pub record BatchStep (s : List ℕ) (body size : ℕ) (some : List (List ℕ)) (due : ℕ) (r : Step) : Type 0 where
-  pub is : (more : List (List ℕ)) → inRow s body size (some ++ more) due ≡ onward s body size more r
-  pub within : StepWithin size r
 
 -- "The directory runs from 24 ..., then 1E hex just before the base address"; a record within the file, from the numbers of its leader
 unfoldable pub bodyGood : List ℕ → ℕ → ℕ → ℕ → ℕ → ℕ → Bool
@@ -59,10 +36,6 @@ recordGood first s at = leaderGood first s at && bodyGood s at (sizeAt s at) (ba
 -- where the record at `at` ends
 abbrev pub endOf : List ℕ → ℕ → ℕ
 endOf s at = at + sizeAt s at
-
--- what judging a record answers: its end, or 0 where its framing is broken
-unfoldable pub goodEnd : Bool → List ℕ → ℕ → ℕ
-goodEnd first s at = cond (recordGood first s at) (endOf s at) 0
 
 -- the leader is there, with its two sizes: what its readers need
 pub record Led (s : List ℕ) (at : ℕ) : Type 0 where

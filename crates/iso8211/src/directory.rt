@@ -5,7 +5,7 @@ ghost use mathlib.Core.Path.{_≡_};
 ghost use lib.ListN.{length, take};
 ghost use Rattle.octets.specs.Digits.{none};
 ghost use Rattle.iso8211.specs.Directory.{tagAt, rowAt, rowWidth, rows, len, position};
-ghost use Rattle.iso8211.specs.Record.{RowStep, BatchStep};
+ghost use Rattle.iso8211.specs.Premises.{RowStep, BatchStep};
 use octets::digits::get_digits;
 use octets::number::wide;
 

@@ -12,13 +12,15 @@ use Rattle.iso8211.specs.Field.{countAt, fieldAt}
 use Rattle.iso8211.specs.declared.field.Field.{Field}
 use Rattle.entries.specs.declared.Shape.{Shape}
 use Rattle.entries.specs.declared.Extent.{Extent}
-use Rattle.entries.specs.Entries.{entryLen, Sound, entriesOf, extentOf}
+use Rattle.entries.specs.Entries.{entryLen, entriesOf, extentOf}
+use Rattle.entries.specs.Premises.{Sound}
 use Rattle.entries.proofs.EntryLaws.{entry-within, entry-bare, fixed-long}
 use Rattle.entries.proofs.EntriesLaws.{entries-nil, entries-none, entries-more, by-entries}
 use Rattle.table.specs.Table.{rowOf, kindOf}
 use Rattle.layout.specs.Layout.{shapeOf}
 use Rattle.layout.specs.Record.{kindAt, contentAt}
-use Rattle.items.specs.Lists.{partAt, joinFrom, entriesAt, LaidOut}
+use Rattle.items.specs.Premises.{LaidOut}
+use Rattle.items.specs.Lists.{partAt, joinFrom, entriesAt}
 use Rattle.layout.proofs.Promise.{content-length}
 use Rattle.items.proofs.ListsLaws.{part-yes, part-no, entries-next, entries-end, entries-all, list-few}
 

@@ -21,7 +21,8 @@ use Rattle.entries.proofs.WalkLaws.{walk-some, walk-more, walk-whole}
 use Rattle.table.specs.Table.{rowOf, kindOf}
 use Rattle.layout.specs.Layout.{shapeOf}
 use Rattle.layout.specs.Record.{contentAt}
-use Rattle.items.specs.Lists.{partAt, joinFrom, entriesAt, LaidOut}
+use Rattle.items.specs.Premises.{LaidOut}
+use Rattle.items.specs.Lists.{partAt, joinFrom, entriesAt}
 use Rattle.items.specs.Cursors.{left, CursorIn, Settled, Stepped}
 use Rattle.items.specs.declared.cursor.Cursor.{Cursor}
 use Rattle.items.specs.declared.cursor.Next.{Next}

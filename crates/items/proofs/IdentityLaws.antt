@@ -7,10 +7,13 @@ use native.Mathlib.Omega.{arith}
 use lib.ListN.{length}
 use lib.Dec.{eqb}
 use borrow.Author.Tests.{eq-eqb, ne-eqb}
-use Rattle.octets.specs.Number.{byteAt, numAt, Reads}
+use Rattle.octets.specs.Number.{byteAt, numAt}
+use Rattle.octets.specs.Premises.{Reads}
 use Rattle.iso8211.specs.Field.{fieldAt}
 use Rattle.iso8211.specs.declared.field.Field.{Field}
-use Rattle.items.specs.Identity.{idAt, rcnmAt, rcidAt, primAt, objlAt, foidAt, rankOf, versionAt, ruinAt, nameFrom, nameAt, wordFor, nameOf, placeOf, Identified, Featured}
+use Rattle.items.specs.Premises.{Identified, Featured}
+use Rattle.items.specs.Identity.{idAt, rcnmAt, rcidAt, primAt, objlAt, foidAt, rankOf, versionAt, ruinAt, nameFrom, nameAt, wordFor}
+use Rattle.items.specs.Word.{nameOf, wordOffset}
 
 -- ---- classes
 few : (a b c : Bool) → cond a 0 (cond b 1 (cond c 2 3)) ≤ 3
@@ -49,9 +52,9 @@ pub word-name : (s : List ℕ) (at : ℕ) → at < 16777216 → nameOf (wordFor 
 unfolding wordFor
 word-name s at h = omega arith
 
-pub word-place : (s : List ℕ) (at : ℕ) → at < 16777216 → placeOf (wordFor s at) ≡ at
+pub word-offset : (s : List ℕ) (at : ℕ) → at < 16777216 → wordOffset (wordFor s at) ≡ at
 unfolding wordFor
-word-place s at h = omega arith
+word-offset s at h = omega arith
 
 pub word-small : (s : List ℕ) (at : ℕ) → at < 16777216 → rcidAt s at < 4294967296 → wordFor s at < 18446744073709551616
 unfolding wordFor nameAt

@@ -2,7 +2,7 @@
 use mathlib.Core.Bool.{true, false}
 use mathlib.Core.Path.{_≡_, refl}
 use Prim.Native.Nat.{ℕ}
-use Rattle.entries.specs.Entries.{Sound}
+use Rattle.entries.specs.Premises.{Sound}
 use Rattle.table.specs.declared.Kind.{Kind}
 use Rattle.table.specs.Table.{table, rowOf, kindRow, ATTV, VRPT, SG2D, SG3D, ATTF, NATF, FFPT, FSPT}
 use Rattle.layout.specs.Layout.{shapeOf}

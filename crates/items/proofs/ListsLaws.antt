@@ -13,12 +13,14 @@ use Rattle.octets.proofs.Cases.{eq-or-ne}
 use Rattle.iso8211.specs.Field.{countAt, fieldAt}
 use Rattle.iso8211.specs.declared.field.Field.{Field}
 use Rattle.entries.specs.declared.Shape.{Shape}
-use Rattle.entries.specs.Entries.{entriesOf, Whole}
+use Rattle.entries.specs.Entries.{entriesOf}
+use Rattle.entries.specs.Premises.{Whole}
 use Rattle.entries.proofs.EntriesLaws.{entries-nil, entries-append, whole-append, count-few}
 use Rattle.table.specs.Table.{rowOf}
 use Rattle.layout.specs.Layout.{shapeOf, filled}
 use Rattle.layout.specs.Record.{kindAt, contentAt}
-use Rattle.items.specs.Lists.{partAt, joinFrom, listAt, entriesAt, LaidOut}
+use Rattle.items.specs.Premises.{LaidOut}
+use Rattle.items.specs.Lists.{partAt, joinFrom, listAt, entriesAt}
 use Rattle.layout.proofs.Promise.{full-list}
 
 -- ---- the parts

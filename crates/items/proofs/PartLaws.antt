@@ -9,7 +9,8 @@ use lib.ListN.{length, take, drop, length-append, length-take, length-drop}
 use Rattle.octets.proofs.Tests.{told-no, told-yes}
 use Rattle.iso8211.specs.Field.{countAt}
 use Rattle.entries.specs.declared.Shape.{Shape}
-use Rattle.entries.specs.Entries.{entriesOf, Whole}
+use Rattle.entries.specs.Entries.{entriesOf}
+use Rattle.entries.specs.Premises.{Whole}
 use Rattle.entries.specs.Rules.{allOf}
 use Rattle.entries.proofs.EntryLaws.{len-short, len-bare}
 use Rattle.entries.proofs.RulesLaws.{all-append}

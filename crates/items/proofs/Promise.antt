@@ -11,9 +11,10 @@ use Rattle.iso8211.specs.File.{frameOf, recordAt}
 use Rattle.iso8211.specs.declared.file.Framed.the-variants.{Records}
 use Rattle.table.specs.Table.{VRID, FRID, FOID}
 use Rattle.layout.specs.Layout.{filled}
-use Rattle.layout.specs.Record.{kindAt, contentAt, Laid}
-use Rattle.items.specs.Lists.{LaidOut}
-use Rattle.items.specs.Identity.{idAt, rcnmAt, Identified, Featured}
+use Rattle.layout.specs.Record.{kindAt, contentAt}
+use Rattle.layout.specs.Premises.{Laid}
+use Rattle.items.specs.Premises.{LaidOut, Identified, Featured}
+use Rattle.items.specs.Identity.{idAt, rcnmAt}
 use Rattle.iso8211.proofs.Promise.{record-in, fields-in}
 use Rattle.layout.proofs.Promise.{content-length, laid-feature, full-vrid, full-frid, full-foid}
 

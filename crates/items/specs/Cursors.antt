@@ -1,10 +1,11 @@
--- A place in a list that may stand in several fields. Assumes nothing.
+-- A place in a list that may stand in several fields. It serves the proofs, and nothing here need be believed. Assumes nothing.
 use Prim.Native.Nat.{ℕ, _-_, _≤_, _<_}
 use mathlib.Core.List.{List, [], _∷_, _++_}
 use mathlib.Core.Path.{_≡_}
 use lib.ListN.{length, take, drop}
 use Rattle.iso8211.specs.Field.{countAt}
-use Rattle.entries.specs.Entries.{entriesOf, Whole}
+use Rattle.entries.specs.Entries.{entriesOf}
+use Rattle.entries.specs.Premises.{Whole}
 use Rattle.layout.specs.Layout.{shapeOf}
 use Rattle.items.specs.Lists.{joinFrom}
 use Rattle.items.specs.declared.cursor.Cursor.{Cursor}

@@ -2,15 +2,17 @@
 ghost use Prim.Native.Nat.{_≤_, _<_};
 ghost use mathlib.Core.Path.{_≡_};
 ghost use lib.ListN.{length};
-ghost use Rattle.iso8211.specs.Field.{HeadOf};
-ghost use Rattle.items.specs.Lists.{LaidOut};
-ghost use Rattle.items.specs.Identity.{idAt, rcnmAt, rcidAt, primAt, objlAt, foidAt, rankOf, versionAt, ruinAt, nameAt, wordFor, Identified, Featured};
+ghost use Rattle.iso8211.specs.Premises.{HeadOf};
+ghost use Rattle.items.specs.Identity.{idAt, rcnmAt, rcidAt, primAt, objlAt, foidAt, rankOf, versionAt, ruinAt, nameAt, wordFor};
+use crate::word;
 use iso8211::field::Head;
 use iso8211::field::field_at;
 use octets::number::get1;
 use octets::number::get2;
 use octets::number::get4;
 use octets::number::get8;
+use table::offsets;
+ghost use Rattle.items.specs.Premises.{LaidOut, Identified, Featured};
 
 // Where the identifier field starts.
 fn id_at(s: &[u8], at: usize, h: Head) -> usize
@@ -35,7 +37,7 @@ pub fn rcid_of(s: &[u8], at: usize, h: Head) -> u32
     ensures { λ r. ⌜ (r ≡ rcidAt (now (s .entry)) at) × (r < 4294967296) ⌝ }
 {
     let id = id_at(s, at, h);
-    get4(s, id + 1)
+    get4(s, id + offsets::RCID)
 }
 
 // PRIM of a feature.
@@ -44,7 +46,7 @@ pub fn prim_of(s: &[u8], at: usize, h: Head) -> u32
     ensures { λ r. ⌜ (r ≡ primAt (now (s .entry)) at) × (r < 256) ⌝ }
 {
     let id = id_at(s, at, h);
-    get1(s, id + 5)
+    get1(s, id + offsets::FRID_PRIM)
 }
 
 // OBJL of a feature.
@@ -53,7 +55,7 @@ pub fn objl_of(s: &[u8], at: usize, h: Head) -> u32
     ensures { λ r. ⌜ (r ≡ objlAt (now (s .entry)) at) × (r < 65536) ⌝ }
 {
     let id = id_at(s, at, h);
-    get2(s, id + 7)
+    get2(s, id + offsets::FRID_OBJL)
 }
 
 // FOID of a feature, its eight bytes as a number.
@@ -66,16 +68,16 @@ pub fn foid_of(s: &[u8], at: usize, h: Head) -> u64
     get8(s, start)
 }
 
-// RVER, which stands at another place in a feature.
+// RVER, which stands at another offset in a feature.
 pub fn version_of(s: &[u8], at: usize, h: Head) -> u32
     requires { ⌜ LaidOut (now s) at × HeadOf (now s) at h × Identified (now s) at ⌝ }
     ensures { λ r. ⌜ (r ≡ versionAt (now (s .entry)) at) × (r < 65536) ⌝ }
 {
     let id = id_at(s, at, h);
     if get1(s, id) == 100 {
-        return get2(s, id + 9);
+        return get2(s, id + offsets::FRID_RVER);
     }
-    get2(s, id + 5)
+    get2(s, id + offsets::VRID_RVER)
 }
 
 // RUIN: 1 insert, 2 delete, 3 modify.
@@ -85,9 +87,9 @@ pub fn ruin_of(s: &[u8], at: usize, h: Head) -> u32
 {
     let id = id_at(s, at, h);
     if get1(s, id) == 100 {
-        return get1(s, id + 11);
+        return get1(s, id + offsets::FRID_RUIN);
     }
-    get1(s, id + 7)
+    get1(s, id + offsets::VRID_RUIN)
 }
 
 // The place of a class in held order.
@@ -109,7 +111,7 @@ pub fn name_of(s: &[u8], at: usize, h: Head) -> u64
 {
     let rank = rank_of(rcnm_of(s, at, h));
     let rcid = rcid_of(s, at, h) as u64;
-    rank * 4294967296 + rcid
+    rank * word::CLASS_WEIGHT + rcid
 }
 
 // The name and the record's place in one word.
@@ -117,5 +119,5 @@ pub fn word_for(s: &[u8], at: usize, h: Head) -> u64
     requires { ⌜ LaidOut (now s) at × HeadOf (now s) at h × Identified (now s) at × (length (now s) ≤ 5242880) ⌝ }
     ensures { λ r. ⌜ r ≡ wordFor (now (s .entry)) at ⌝ }
 {
-    name_of(s, at, h) * 16777216 + at as u64
+    name_of(s, at, h) * word::NAME_WEIGHT + at as u64
 }

@@ -1,6 +1,6 @@
 // The shapes of the lists' entries.
 ghost use mathlib.Core.Path.{_≡_};
-ghost use Rattle.entries.specs.Entries.{Sound};
+ghost use Rattle.entries.specs.Premises.{Sound};
 ghost use Rattle.layout.specs.Layout.{shapeOf};
 use entries::Shape;
 use table::kind_row;

@@ -1,5 +1,5 @@
 // The step through a list, entry by entry or part by part, whatever number of fields it stands in.
-ghost use Rattle.items.specs.Lists.{Listed};
+ghost use Rattle.items.specs.Premises.{Listed};
 ghost use Rattle.items.specs.Cursors.{CursorIn, Settled, Stepped, PartStepped};
 use crate::cursor::Cursor;
 use crate::cursor::Next;

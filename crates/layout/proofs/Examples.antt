@@ -50,5 +50,6 @@ faults =
     ∷ []
 
 layout-rows : faults ≡ 0 ∷ 0 ∷ 49 ∷ 58 ∷ 49 ∷ 58 ∷ 49 ∷ 58 ∷ 42 ∷ 58 ∷ []
-unfolding flatten faults all node short bytes layoutFault laidFrom fieldLaid filled mayEnd placed follows opens rowOf table kindOf among asNumber wholeGood entriesOf entriesFrom entryLen textLen textFrom countAt directoryAt fieldAt rows rowAt tagAt numberAt digitsFrom isDigit
+unfolding flatten faults all node short bytes layoutFault laidFrom fieldLaid filled mayEnd placed follows opens rowOf table kindOf among asNumber wholeGood entriesOf entriesFrom
+    entryLen textLen textFrom countAt directoryAt fieldAt rows rowAt tagAt numberAt digitsFrom isDigit
 layout-rows = refl

@@ -10,7 +10,7 @@ use lib.Dec.{eqb, leb, ltb}
 use borrow.Author.Tests.{leb-true, ltb-true, eqb-true, eq-eqb, not-true}
 use Rattle.octets.proofs.Cases.{eq-or-ne}
 use Rattle.octets.proofs.Tests.{both, all4}
-use Rattle.entries.specs.Entries.{Sound}
+use Rattle.entries.specs.Premises.{Sound}
 use Rattle.entries.specs.Rules.{allOf}
 use Rattle.table.specs.Table.{Row, table, rowOf, kindOf, among, asNumber, first, DSID, DSSI, DSPM, VRID, FRID, FOID}
 use Rattle.table.specs.Text.{bytes}

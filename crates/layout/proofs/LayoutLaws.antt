@@ -10,7 +10,8 @@ use lib.Dec.{eqb}
 use borrow.Author.Tests.{ne-eqb, eq-eqb}
 use Rattle.octets.proofs.Tests.{told-no, told-yes, then-same, else-same}
 use Rattle.iso8211.specs.Record.{endOf}
-use Rattle.iso8211.specs.Field.{countAt, fieldAt, FieldIn, RecordIn}
+use Rattle.iso8211.specs.Field.{countAt, fieldAt, FieldIn}
+use Rattle.iso8211.specs.Premises.{RecordIn}
 use Rattle.entries.specs.Entries.{wholeGood}
 use Rattle.iso8211.specs.declared.field.Field.{Field}
 use Rattle.table.specs.Table.{rowOf, kindOf, kindRow}

@@ -16,17 +16,21 @@ use Rattle.octets.proofs.Tests.{all3}
 use Rattle.iso8211.specs.Leader.{baseAt, lengthDigits, positionDigits}
 use Rattle.iso8211.specs.Directory.{rowWidth}
 use Rattle.iso8211.specs.Record.{endOf}
-use Rattle.iso8211.specs.Field.{countAt, fieldAt, FramedAt, RecordIn, FieldsIn}
-use Rattle.entries.specs.Entries.{Whole, entriesOf}
+use Rattle.iso8211.specs.Field.{countAt, fieldAt, FieldsIn}
+use Rattle.iso8211.specs.Premises.{FramedAt, RecordIn}
+use Rattle.entries.specs.Entries.{entriesOf}
+use Rattle.entries.specs.Premises.{Whole}
 use Rattle.entries.proofs.EntriesLaws.{whole-good}
-use Rattle.dataset.specs.Dsid.{DsidLaid}
-use Rattle.values.specs.Dspm.{DspmLaid}
+use Rattle.dataset.specs.Premises.{DsidLaid}
+use Rattle.headvalues.specs.Premises.{DspmLaid}
 use Rattle.dataset.proofs.DsidLaws.{dsid-laid}
-use Rattle.values.proofs.DspmLaws.{dspm-laid}
+use Rattle.headvalues.proofs.DspmLaws.{dspm-laid}
 use Rattle.table.specs.Table.{table, rowOf, first, DSID, DSSI, DSPM, VRID, FRID, FOID}
 use Rattle.layout.specs.Layout.{opens, follows, placed, mayEnd, filled, shapeOf, fieldLaid, laidFrom, layoutFault, start}
-use Rattle.layout.specs.Record.{kindAt, contentAt, Laid}
-use Rattle.layout.proofs.KindLaws.{kind-few, opens-dsid, opens-dspm, opens-item, opens-feature, opens-group, first-apart, follows-dsid, follows-dssi, follows-dspm, control-row, Followed, followed}
+use Rattle.layout.specs.Record.{kindAt, contentAt}
+use Rattle.layout.specs.Premises.{Laid}
+use Rattle.layout.proofs.KindLaws.{kind-few, opens-dsid, opens-dspm, opens-item, opens-feature, opens-group, first-apart, follows-dsid, follows-dssi, follows-dspm}
+use Rattle.layout.proofs.KindLaws.{control-row, Followed, followed}
 
 -- ---- out of a fault of 0
 apart : (b : Bool) (x y : ℕ) → cond b x y ≡ 0 → 0 < y → (b ≡ true) × (x ≡ 0)
@@ -52,7 +56,8 @@ module _ (update : Bool) (stage : ℕ) (marks s : List ℕ) (at : ℕ) where
   unfolding laidFrom
   each-from zero k j prev v e all low high = absurd (omega arith)
   each-from (suc n) k j prev v e all low high =
-      let a = apart (fieldLaid update stage marks s prev (fieldAt s at k)) (laidFrom n update stage marks s at (k + 1) (kindAt s at k)) (fieldAt s at k .start) v (start-past s at k (omega arith)) in
+      let a = apart (fieldLaid update stage marks s prev (fieldAt s at k)) (laidFrom n update stage marks s at (k + 1) (kindAt s at k)) (fieldAt s at k .start) v
+      (start-past s at k (omega arith)) in
       ⊎-elim (λ (same : k ≡ j). rw (← same, ← e) (a .0))
       (λ (other : k ≡ j → ⊥). each-from n (k + 1) j (kindAt s at k) (a .1) (before-next s at k) (omega arith) (omega arith) (omega arith))
       (eq-or-ne k j)
@@ -62,7 +67,8 @@ module _ (update : Bool) (stage : ℕ) (marks s : List ℕ) (at : ℕ) where
   unfolding laidFrom
   end-from zero k prev v e all past = let same : countAt s at ≡ k = omega arith in rw (same, ← e) (apart (mayEnd prev) 0 (endOf s at) v past .0)
   end-from (suc n) k prev v e all past =
-      let a = apart (fieldLaid update stage marks s prev (fieldAt s at k)) (laidFrom n update stage marks s at (k + 1) (kindAt s at k)) (fieldAt s at k .start) v (start-past s at k (omega arith)) in
+      let a = apart (fieldLaid update stage marks s prev (fieldAt s at k)) (laidFrom n update stage marks s at (k + 1) (kindAt s at k)) (fieldAt s at k .start) v
+      (start-past s at k (omega arith)) in
       end-from n (k + 1) (kindAt s at k) (a .1) (before-next s at k) (omega arith) past
 
 -- each field is rightly placed, declared and filled

@@ -10,7 +10,7 @@ use Rattle.iso8211.specs.declared.field.Field.{Field}
 use Rattle.entries.specs.Entries.{wholeGood}
 use Rattle.entries.specs.declared.Shape.{Shape}
 use Rattle.dataset.specs.Dsid.{dsidLaid}
-use Rattle.values.specs.Dspm.{dspmLaid}
+use Rattle.headvalues.specs.Dspm.{dspmLaid}
 use Rattle.table.specs.Table.{rowOf, kindOf, first, DSID, DSPM, FRID, FOID}
 
 -- no field yet: where a record begins

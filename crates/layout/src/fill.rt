@@ -1,22 +1,21 @@
 // Whether a field is filled by its subfields.
 ghost use mathlib.Core.Path.{_≡_};
 ghost use Rattle.layout.specs.Layout.{filled};
-use crate::place::DSID;
-use crate::place::DSPM;
 use dataset::dsid_laid;
 use entries::Shape;
 use entries::whole;
+use headvalues::dspm::dspm_laid;
 use table::kind_row;
-use values::dspm::dspm_laid;
+use table::kinds;
 
 // Whether the bytes of a field of kind k, without its closing 1E, hold its subfields and no more.
 pub fn filled(c: &[u8], k: usize) -> bool
     ensures { λ r. ⌜ r ≡ filled k (now (c .entry)) ⌝ }
 {
-    if k == DSID {
+    if k == kinds::DSID {
         return dsid_laid(c);
     }
-    if k == DSPM {
+    if k == kinds::DSPM {
         return dspm_laid(c);
     }
     let row = kind_row(k);

@@ -9,7 +9,7 @@ pub mod place;
 ghost use Prim.Native.Nat.{_+_, _≤_};
 ghost use mathlib.Core.Path.{_≡_};
 ghost use lib.ListN.{length};
-ghost use Rattle.iso8211.specs.Field.{RecordIn};
+ghost use Rattle.iso8211.specs.Premises.{RecordIn};
 ghost use Rattle.layout.specs.Layout.{fieldLaid, layoutFault};
 use crate::fill::filled;
 use crate::place::START;

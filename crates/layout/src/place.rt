@@ -2,18 +2,9 @@
 ghost use mathlib.Core.Path.{_≡_};
 ghost use Rattle.layout.specs.Layout.{opens, follows, placed, mayEnd};
 use table::kind_row;
+use table::kinds;
 
-// The kinds that a rule names, by their number in the table; no field yet comes behind them.
-pub const DSID: usize = 0;
-
-pub const DSPM: usize = 2;
-
-pub const FRID: usize = 10;
-
-pub const FOID: usize = 11;
-
-pub const FIRST: usize = 18;
-
+// In place of a kind where no field stands before.
 pub const START: usize = 20;
 
 // Whether a field of kind k opens a record of this stage, behind its 0001.
@@ -33,7 +24,7 @@ pub fn follows(update: bool, prev: usize, k: usize) -> bool
     let row = kind_row(k);
     let repeated = (prev == k) & row.list;
     let later = (before.order < row.order) | repeated;
-    let identified = !(prev == FRID) | (k == FOID);
+    let identified = !(prev == kinds::FRID) | (k == kinds::FOID);
     let allowed = !row.control | update;
     (before.group == row.group) & (later & (identified & allowed))
 }
@@ -43,9 +34,9 @@ pub fn placed(update: bool, stage: usize, prev: usize, k: usize) -> bool
     ensures { λ r. ⌜ r ≡ placed update stage prev k ⌝ }
 {
     if prev == START {
-        return k == FIRST;
+        return k == kinds::FIRST;
     }
-    if prev == FIRST {
+    if prev == kinds::FIRST {
         return opens(stage, k);
     }
     follows(update, prev, k)
@@ -55,5 +46,5 @@ pub fn placed(update: bool, stage: usize, prev: usize, k: usize) -> bool
 pub fn may_end(prev: usize) -> bool
     ensures { λ r. ⌜ r ≡ mayEnd prev ⌝ }
 {
-    !((prev == FIRST) | ((prev == DSID) | (prev == FRID)))
+    !((prev == kinds::FIRST) | ((prev == kinds::DSID) | (prev == kinds::FRID)))
 }

@@ -1,68 +1,53 @@
 -- From the verdict to the text: a cell that got 0 can be read, and each way through the code prints what the listing says. Assumes nothing.
-use Prim.Native.Nat.{ℕ, _*_, _≤_, _<_}
-use mathlib.Core.Bool.{Bool, true, false, cond}
+use Prim.Native.Nat.{ℕ, _≤_, _<_}
+use mathlib.Core.Bool.{false}
 use mathlib.Core.List.{List}
-use mathlib.Core.Logic.{⊎-elim}
 use mathlib.Core.Path.{_≡_, refl, sym, ap, _∙_}
 use native.Mathlib.Omega.{arith}
 use lib.ListN.{length}
-use lib.Dec.{ltb}
 use borrow.Author.Tests.{ne-eqb, lt-ltb, le-ltb}
 use Rattle.octets.specs.Area.{Wrote}
 use Rattle.octets.proofs.AreaLaws.{wrote-none, wrote-as}
-use Rattle.octets.proofs.Cases.{eq-or-ne}
 use Rattle.iso8211.specs.File.{frameOf}
 use Rattle.iso8211.specs.declared.file.Framed.{Framed}
 use Rattle.iso8211.specs.declared.file.Framed.the-variants.{Records, Broken}
-use Rattle.chart.specs.declared.read.Refusal.{Refusal}
-use Rattle.names.specs.Names.{Readable}
-use Rattle.reader.specs.Reader.{filed, framedFront, frontOf, cellFault, workAnswer}
-use Rattle.reader.specs.declared.answer.Answer.{Answer}
+use Rattle.names.specs.Premises.{Readable}
+use Rattle.reader.specs.Reader.{framedFront, frontOf, cellFault, workAnswer, fronted}
 use Rattle.reader.specs.declared.front.Front.the-variants.{Count}
 use Rattle.reader.proofs.ReaderLaws.{cell-good}
-use Rattle.loader.specs.Judge.{cellVerdict, judgeChecked, judgeFront, judgeOf}
+use Rattle.judging.specs.Judge.{cellVerdict, judgeOf}
 use Rattle.loader.proofs.ReadLaws.{judge-small}
-use Rattle.listing.specs.Text.{refusedText}
-use Rattle.listing.specs.Listing.{linesOf, framedLines, listingWith, listingOf, Judged}
-use Rattle.listing.proofs.RecordsLaws.{records-few}
+use Rattle.listingrows.specs.Text.{refusedText}
+use Rattle.listingrows.specs.Listing.{linesOf, framedLines, listingWith, listingOf, JudgedCell}
+use Rattle.listingrows.proofs.RecordsLaws.{records-few}
+use Rattle.answers.specs.declared.refusal.Refusal.{Refusal}
+use Rattle.answers.specs.Answer.{filed}
+use Rattle.answers.specs.declared.answer.Answer.{Answer}
+use Rattle.judging.proofs.JudgeLaws.{judge-opened}
+use Rattle.readboth.proofs.CallLaws.{work-on, work-told}
+use Rattle.topology.specs.Topology.{topologyFault}
+use Rattle.answers.specs.First.{firstAnswer}
+use Rattle.answers.proofs.FirstLaws.{first-told}
+use Rattle.answers.proofs.AnswerLaws.{filed-told}
 
 -- ---- a verdict of 0
-filed-zero : (file : ℕ) (r : Refusal) → filed file r .code ≡ 0 → r .code ≡ 0
-unfolding filed
-filed-zero file r z =
-    ⊎-elim (λ (h : r .code ≡ 0). h)
-    (λ (h : r .code ≡ 0 → ⊥). rw (ne-eqb (r .code) 0 h) at z)
-    (eq-or-ne (r .code) 0)
-
-work-zero : (short : Bool) (over on : Answer) → over .code ≡ 3 → cond short over on .code ≡ 0 → on .code ≡ 0
-work-zero true over on e z = absurd (omega arith)
-work-zero false over on e z = z
-
-checked-zero : (w n : ℕ) (r : Refusal) → workAnswer w n (filed 1 r) .code ≡ 0 → r .code ≡ 0
-unfolding workAnswer
-checked-zero w n r z = filed-zero 1 r (work-zero (ltb w (16 * n)) _ (filed 1 r) refl z)
-
 front-count : (s : List ℕ) (n : ℕ) → length s ≤ 65536 → frameOf s ≡ Records n → frontOf 1 s ≡ Count n
 unfolding frontOf framedFront
 front-count s n short framed = rw (le-ltb 5242880 (length s) (omega arith), framed)
 
-judge-counted : (s : List ℕ) (w n : ℕ) → length s ≤ 65536 → frameOf s ≡ Records n → judgeOf s w ≡ workAnswer w n (filed 1 (cellVerdict s n))
-unfolding judgeOf judgeFront judgeChecked
-judge-counted s w n short framed = rw (front-count s n short framed)
+judge-counted : (s : List ℕ) (w n : ℕ) → length s ≤ 65536 → frameOf s ≡ Records n → judgeOf s w ≡ firstAnswer (workAnswer w n) (filed 1 (cellVerdict s n))
+judge-counted s w n short framed = judge-opened s n (front-count s n short framed) w
 
 verdict-zero : (s : List ℕ) (n : ℕ) → cellVerdict s n .code ≡ 0 → cellFault s n .code ≡ 0
 unfolding cellVerdict
-verdict-zero s n z =
-    ⊎-elim (λ (h : cellFault s n .code ≡ 0). h)
-    (λ (h : cellFault s n .code ≡ 0 → ⊥). rw (ne-eqb (cellFault s n .code) 0 h) at z)
-    (eq-or-ne (cellFault s n .code) 0)
+verdict-zero s n z = first-told (λ (r : Refusal). r .code) (cellFault s n) (topologyFault s n) z .0
 
 -- a cell that got 0 can be read
-pub judged : (s : List ℕ) (w : ℕ) (a : Answer) → length s ≤ 65536 → a ≡ judgeOf s w → Judged s a
+pub judged : (s : List ℕ) (w : ℕ) (a : Answer) → length s ≤ 65536 → a ≡ judgeOf s w → JudgedCell s a
 judged s w a short is = record {
   good = λ z n framed.
       let checked = ap (λ (b : Answer). b .code) (sym (is ∙ judge-counted s w n short framed)) ∙ z in
-      cell-good s n framed (omega arith) (verdict-zero s n (checked-zero w n (cellVerdict s n) checked));
+      cell-good s n framed (omega arith) (verdict-zero s n (filed-told 1 (cellVerdict s n) (work-told w n (filed 1 (cellVerdict s n)) checked .2)));
 }
 
 -- the record named fits 32 bits
@@ -71,16 +56,15 @@ judged-index s w a is = rw is (judge-small s w .index-small)
 
 -- a cell that is not framed got 2, so no cell that got 0 prints nothing
 pub judge-broken : (s : List ℕ) (w k : ℕ) → length s ≤ 65536 → frameOf s ≡ Broken k → judgeOf s w .code ≡ 2
-unfolding judgeOf judgeFront frontOf framedFront
+unfolding judgeOf fronted frontOf framedFront
 judge-broken s w k short e = rw (le-ltb 5242880 (length s) (omega arith), e)
 
 -- ---- "Its work area always suffices": code 3 doesn't come, and a longer area would change nothing
-pub work-suffices : (s : List ℕ) (n w : ℕ) (on : Answer) → length s ≤ 65536 → 32768 ≤ w → frameOf s ≡ Records n → workAnswer w n on ≡ on
-unfolding workAnswer
-work-suffices s n w on short room framed = rw (le-ltb w (16 * n) (omega (arith, records-few s n framed short)))
+pub work-suffices : (s : List ℕ) (n w : ℕ) (on : Answer) → length s ≤ 65536 → 32768 ≤ w → frameOf s ≡ Records n → firstAnswer (workAnswer w n) on ≡ on
+work-suffices s n w on short room framed = work-on w n on (omega (arith, records-few s n framed short))
 
 same-framed : (s : List ℕ) (w : ℕ) (f : Framed) → length s ≤ 65536 → 32768 ≤ w → frameOf s ≡ f → judgeOf s w ≡ judgeOf s 32768
-unfolding judgeOf judgeFront frontOf framedFront
+unfolding judgeOf fronted frontOf framedFront
 same-framed s w (Records n) short room e =
     judge-counted s w n short e ∙ work-suffices s n w _ short room e
     ∙ sym (judge-counted s 32768 n short e ∙ work-suffices s n 32768 _ short (omega arith) e)
@@ -112,7 +96,7 @@ module _ (s : List ℕ) (a : Answer) where
     unfolding framedLines
     answer-lines e wrote = wrote-as (listingWith a s) (sym (with-framed ∙ rw e)) wrote
 
-    pub answer-readable : (n : ℕ) → Judged s a → framed ≡ Records n → Readable false s n
+    pub answer-readable : (n : ℕ) → JudgedCell s a → framed ≡ Records n → Readable false s n
     answer-readable n known e = known .good z n (sym is ∙ e)
 
 -- ---- list: one law for each way out

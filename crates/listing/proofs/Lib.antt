@@ -1,5 +1,2 @@
 -- Laws of `listing`: of the records, then one file for each notion of specs/.
-pub mod RecordsLaws
-pub mod TextLaws
-pub mod ListingLaws
 pub mod AnswerLaws

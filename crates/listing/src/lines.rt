@@ -4,24 +4,26 @@ ghost use mathlib.Core.Bool.{false};
 ghost use lib.ListN.{length};
 ghost use Rattle.octets.specs.Area.{Wrote};
 ghost use Rattle.words.specs.Words.{wordsIn};
-ghost use Rattle.items.specs.Identity.{placeOf};
-ghost use Rattle.names.specs.Names.{Readable};
-ghost use Rattle.names.specs.Held.{Stands};
-ghost use Rattle.listing.specs.Text.{lineOf};
-ghost use Rattle.listing.specs.Listing.{rowAt, linesFrom, linesOf, Listable};
-use crate::row::row_at;
-use crate::text::put_header;
-use crate::text::put_line;
+ghost use Rattle.items.specs.Word.{wordOffset};
+ghost use Rattle.listingrows.specs.Text.{lineOf};
+ghost use Rattle.listingrows.specs.Listing.{linesFrom, linesOf, Listable, rowOf};
+use items::word;
+use listingrows::row::row_at;
+use listingrows::text::put_header;
+use listingrows::text::put_line;
 use names::order::order;
 use names::walk::first_item;
 use words::get;
+ghost use Rattle.items.specs.Item.{itemAt};
+ghost use Rattle.names.specs.NameWords.{itemsAt};
+ghost use Rattle.names.specs.Premises.{Readable, Stands};
 
 // The line of the item of word w.
 fn put_item(s: &[u8], w: u64, place: u32, out: &mut [u8], at: usize) -> usize
     requires { ⌜ Stands (now s) w × (length (now s) ≤ 65536) × (place < 10000000000) × (at + 80 ≤ length (now out)) ⌝ }
-    ensures { λ r. ⌜ Wrote (now (out .entry)) at (lineOf place (rowAt (now (s .entry)) (placeOf w))) (now (out .exit)) r × (r ≤ at + 80) ⌝ }
+    ensures { λ r. ⌜ Wrote (now (out .entry)) at (lineOf place (rowOf (itemAt (now (s .entry)) (wordOffset w)))) (now (out .exit)) r × (r ≤ at + 80) ⌝ }
 {
-    let row = row_at(s, (w % 16777216) as usize);
+    let row = row_at(s, (w % word::NAME_WEIGHT) as usize);
     put_line(out, at, place, &row)
 }
 
@@ -29,7 +31,7 @@ fn put_item(s: &[u8], w: u64, place: u32, out: &mut [u8], at: usize) -> usize
 // of the first is 3.
 fn put_lines(s: &[u8], m: usize, work: &[u8], out: &mut [u8], at: usize) -> usize
     requires { ⌜ Listable (now s) m (now work) × (at + 80 * m ≤ length (now out)) ⌝ }
-    ensures { λ r. ⌜ Wrote (now (out .entry)) at (linesFrom 3 (now (s .entry)) (wordsIn (now (work .entry)) 0 m)) (now (out .exit)) r ⌝ }
+    ensures { λ r. ⌜ Wrote (now (out .entry)) at (linesFrom 3 (itemsAt (now (s .entry)) (wordsIn (now (work .entry)) 0 m))) (now (out .exit)) r ⌝ }
 {
     let mut next = at;
     let mut k: usize = 0;

@@ -7,23 +7,22 @@ ghost use Prim.Native.Nat.{_≤_, _<_};
 ghost use mathlib.Core.Path.{_≡_};
 ghost use lib.ListN.{length};
 ghost use Rattle.octets.specs.Area.{Wrote};
-ghost use Rattle.listing.specs.Listing.{listingWith, listingOf, Judged};
+ghost use Rattle.listingrows.specs.Listing.{JudgedCell, listingWith, listingOf};
+use answers::Answer;
+use answers::codes::LONG;
 use iso8211::Framed;
 use iso8211::file::frame;
+use judging::judge::judge;
 use libc::STDIN_FILENO;
 use libc::STDOUT_FILENO;
 use lines::put_cell;
-use loader::judge::judge;
-use reader::Answer;
-use text::put_refused;
+use listingrows::text::put_refused;
 
 mod lines;
-mod row;
-mod text;
 
 // The text for a cell whose verdict is a.
 fn put_answer(file: &[u8], a: Answer, work: &mut [u8], out: &mut [u8]) -> usize
-    requires { ⌜ Judged (now file) a × (a .index < 4294967296) × (length (now file) ≤ 65536) × (16384 ≤ length (now work)) × (163904 ≤ length (now out)) ⌝ }
+    requires { ⌜ JudgedCell (now file) a × (a .index < 4294967296) × (length (now file) ≤ 65536) × (16384 ≤ length (now work)) × (163904 ≤ length (now out)) ⌝ }
     ensures { λ r. ⌜ Wrote (now (out .entry)) 0 (listingWith a (now (file .entry))) (now (out .exit)) r ⌝ }
 {
     let code = a.code;
@@ -43,7 +42,7 @@ fn list(file: &[u8], work: &mut [u8], out: &mut [u8]) -> usize
     ensures { λ r. ⌜ Wrote (now (out .entry)) 0 (listingOf (now (file .entry))) (now (out .exit)) r ⌝ }
 {
     if 65536 < file.len() {
-        return put_refused(out, 1, 1, 0);
+        return put_refused(out, LONG, 1, 0);
     }
     let a = judge(file, work);
     put_answer(file, a, work, out)

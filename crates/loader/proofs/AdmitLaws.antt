@@ -2,28 +2,23 @@
 use Prim.Native.Nat.{ℕ, _-_, _*_, _≤_, _<_}
 use mathlib.Core.Bool.{true, false, not}
 use mathlib.Core.List.{List}
-use mathlib.Core.Logic.{⊎-elim}
 use mathlib.Core.Path.{_≡_, sym, ap, _∙_}
 use native.Mathlib.Nat.{zero-add}
 use native.Mathlib.Omega.{arith}
-use borrow.Author.Tests.{eq-eqb, ne-eqb, lt-ltb, le-ltb, lt-leb, eqb-true, eqb-false, not-true, not-false}
+use borrow.Author.Tests.{eq-eqb, ne-eqb, lt-ltb, le-ltb, lt-leb, not-true, not-false}
 use lib.ListN.{length}
-use lib.Dec.{eqb}
 use Rattle.octets.specs.Number.{byteAt}
 use Rattle.octets.specs.Area.{Wrote}
 use Rattle.octets.proofs.AreaLaws.{wrote-whole}
-use Rattle.octets.proofs.Cases.{true-or-false}
 use Rattle.words.specs.Words.{wordsIn}
 use Rattle.chart.specs.Read.{readFault}
-use Rattle.chart.specs.declared.read.Refusal.{Refusal}
 use Rattle.names.specs.Names.{twiceOf}
-use Rattle.names.specs.Counts.{countsGood}
-use Rattle.names.specs.Held.{HeldIn}
-use Rattle.reader.specs.Reader.{answer, filed, firstRefusal, frontOf, workAnswer, twiceRefusal, countsRefusal, cellFault, Short}
-use Rattle.reader.specs.declared.answer.Answer.{Answer}
+use Rattle.counted.specs.Counts.{countsGood}
+use Rattle.names.specs.Premises.{HeldIn}
+use Rattle.reader.specs.Reader.{frontOf, workAnswer, cellFault, recordsIn}
 use Rattle.reader.specs.declared.front.Front.{Front}
 use Rattle.reader.specs.declared.front.Front.the-variants.{Count, Refused}
-use Rattle.reader.proofs.ReaderLaws.{readable, dssi-read, dspm-read}
+use Rattle.reader.proofs.ReaderLaws.{readable, dssi-read, dspm-read, cell-parts}
 use Rattle.topology.specs.Topology.{topologyFault}
 use Rattle.held.specs.Chart.{Chart, chartOf}
 use Rattle.held.specs.Held.{heldOf}
@@ -31,8 +26,16 @@ use Rattle.held.specs.Limits.{recordCount, fits}
 use Rattle.reissue.specs.Plan.{chartFrom, Ready, Planned, Writing}
 use Rattle.reissue.specs.declared.plan.Plan.{Plan}
 use Rattle.reissue.proofs.WordLaws.{ready}
-use Rattle.loader.specs.Judge.{cellVerdict}
-use Rattle.loader.specs.Admit.{heldAnswer, written, heldArea, admitChecked, checkedArea, admitFront, areaFront, admitOf, admitArea}
+use Rattle.judging.specs.Judge.{cellVerdict}
+use Rattle.loader.specs.Admit.{heldAnswer, written, admitOf, admitArea, areaBy, cellChart}
+use Rattle.answers.specs.declared.refusal.Refusal.{Refusal}
+use Rattle.answers.specs.Answer.{answer, filed}
+use Rattle.reader.specs.Lent.{FileOpened}
+use Rattle.answers.specs.declared.answer.Answer.{Answer}
+use Rattle.readboth.proofs.CallLaws.{front-refused, opening-on, opened-refused, worked-short, worked-on}
+use Rattle.answers.specs.First.{firstAnswer}
+use Rattle.answers.proofs.FirstLaws.{first-told}
+use Rattle.answers.proofs.AnswerLaws.{code-kept, filed-kept, filed-first, filed-on}
 
 -- ---- what a verdict without a code says
 pub record Told (s : List ℕ) (n : ℕ) : Type 0 where
@@ -41,25 +44,12 @@ pub record Told (s : List ℕ) (n : ℕ) : Type 0 where
   pub counted : countsGood s n ≡ true
   pub topology : topologyFault s n .code ≡ 0
 
-pub fault-told : (s : List ℕ) (n : ℕ) → cellFault s n .code ≡ 0 → (readFault false s n .code ≡ 0) × (twiceOf false s n .index ≡ 0) × (countsGood s n ≡ true)
-unfolding cellFault twiceRefusal countsRefusal
-fault-told s n h =
-    ⊎-elim (λ (r : eqb (readFault false s n .code) 0 ≡ true).
-    ⊎-elim (λ (t : eqb (twiceOf false s n .index) 0 ≡ true).
-    ⊎-elim (λ (c : countsGood s n ≡ true). (eqb-true _ _ r, eqb-true _ _ t, c))
-    (λ (c : countsGood s n ≡ false). absurd (let z : _≡_ {A = ℕ} 8 0 = rw (r, t, c) at h in omega arith)) (true-or-false (countsGood s n)))
-    (λ (t : eqb (twiceOf false s n .index) 0 ≡ false). absurd (let z : _≡_ {A = ℕ} 7 0 = rw (r, t) at h in omega arith)) (true-or-false (eqb (twiceOf false s n .index) 0)))
-    (λ (r : eqb (readFault false s n .code) 0 ≡ false). absurd (eqb-false (readFault false s n .code) 0 r (rw r at h)))
-    (true-or-false (eqb (readFault false s n .code) 0))
-
 pub verdict-told : (s : List ℕ) (n : ℕ) → cellVerdict s n .code ≡ 0 → Told s n
 unfolding cellVerdict
 verdict-told s n h =
-    ⊎-elim (λ (e : eqb (cellFault s n .code) 0 ≡ true).
-    let p = fault-told s n (eqb-true _ _ e) in
-    record { read = p .0; once = p .1; counted = p .2; topology = rw e at h })
-    (λ (e : eqb (cellFault s n .code) 0 ≡ false). absurd (eqb-false (cellFault s n .code) 0 e (rw e at h)))
-    (true-or-false (eqb (cellFault s n .code) 0))
+    let v = first-told (λ (r : Refusal). r .code) (cellFault s n) (topologyFault s n) h in
+    let p = cell-parts s n (v .0) in
+    record { read = p .0; once = p .1; counted = p .2; topology = v .2 }
 
 -- ---- cell_verdict: the words stay
 pub none-held : {s work : List ℕ} {n : ℕ} (r : Refusal) → (r .code ≡ 0 → ⊥) → r .code ≡ 0 → HeldIn s n work
@@ -93,83 +83,81 @@ module _ (s work : List ℕ) (n : ℕ) (so : Ready s n work) where
     pub plan-total : p .total ≡ length (heldOf (chartOf s n))
     plan-total = plan-same .total-is
 
-module _ (c : Chart) (out : List ℕ) where
-  pub size-answer : (a : Answer) → fits c ≡ false → a ≡ answer 20 3 0 0 0 → a ≡ heldAnswer (length out) c
+module _ (c : Chart) (o : ℕ) where
+  pub size-answer : (a : Answer) → fits c ≡ false → a ≡ answer 20 3 0 0 0 → a ≡ heldAnswer o c
   unfolding heldAnswer
   size-answer a f e = e ∙ rw f
 
-  pub size-area : fits c ≡ false → out ≡ heldArea c out
-  unfolding heldArea heldAnswer
-  size-area f = rw f
-
   module _ (f : fits c ≡ true) (total : ℕ) (is : total ≡ length (heldOf c)) where
-    pub room-answer : (a : Answer) → length out < total → a ≡ answer 21 0 0 total 0 → a ≡ heldAnswer (length out) c
+    pub room-answer : (a : Answer) → o < total → a ≡ answer 21 0 0 total 0 → a ≡ heldAnswer o c
     unfolding heldAnswer
-    room-answer a h e = e ∙ rw (f, ← is, lt-ltb (length out) total h)
+    room-answer a h e = e ∙ rw (f, ← is, lt-ltb o total h)
 
-    pub room-area : length out < total → out ≡ heldArea c out
-    unfolding heldArea heldAnswer
-    room-area h = rw (f, ← is, lt-ltb (length out) total h)
-
-    pub done-answer : (a : Answer) → total ≤ length out → a ≡ answer 0 0 0 total 0 → a ≡ heldAnswer (length out) c
+    pub done-answer : (a : Answer) → total ≤ o → a ≡ answer 0 0 0 total 0 → a ≡ heldAnswer o c
     unfolding heldAnswer
-    done-answer a h e = e ∙ rw (f, ← is, le-ltb (length out) total h)
+    done-answer a h e = e ∙ rw (f, ← is, le-ltb o total h)
 
-  pub done-area : fits c ≡ true → (next : List ℕ) (r : ℕ) → Wrote out 0 (heldOf c) next r → next ≡ heldArea c out
-  unfolding heldArea heldAnswer written
-  done-area f next r w =
+-- ---- an answer and the output behind it
+module _ (c : Chart) (out : List ℕ) (a : Answer) where
+  pub area-kept : (a .code ≡ 0 → ⊥) → out ≡ areaBy a c out
+  unfolding areaBy
+  area-kept ne = rw (ne-eqb (a .code) 0 ne)
+
+  pub work-area : (k : ℕ) → a ≡ answer 3 0 0 k 0 → out ≡ areaBy a c out
+  work-area k e = area-kept (code-kept 3 0 0 k 0 a (λ z. omega arith) e)
+
+  pub size-area : a ≡ answer 20 3 0 0 0 → out ≡ areaBy a c out
+  size-area e = area-kept (code-kept 20 3 0 0 0 a (λ z. omega arith) e)
+
+  pub room-area : (k : ℕ) → a ≡ answer 21 0 0 k 0 → out ≡ areaBy a c out
+  room-area k e = area-kept (code-kept 21 0 0 k 0 a (λ z. omega arith) e)
+
+  pub filed-area : (file : ℕ) (r : Refusal) → (r .code ≡ 0 → ⊥) → a ≡ filed file r → out ≡ areaBy a c out
+  filed-area file r ne e = area-kept (filed-kept file r a ne e)
+
+  pub done-area : (next : List ℕ) (r k : ℕ) → a ≡ answer 0 0 0 k 0 → Wrote out 0 (heldOf c) next r → next ≡ areaBy a c out
+  unfolding areaBy written
+  done-area next r k e w =
       let end : r ≡ length (heldOf c) = w .end ∙ zero-add (length (heldOf c)) in
-      let room = w .room in
-      rw (f, le-ltb (length out) (length (heldOf c)) (omega arith)) (wrote-whole w ∙ rw end)
+      let none : a .code ≡ 0 = ap (λ (x : Answer). x .code) e in
+      rw (eq-eqb (a .code) 0 none) (wrote-whole w ∙ rw end)
 
 -- ---- admitted
 module _ (s work : List ℕ) (n : ℕ) (r : Refusal) (is : r ≡ cellVerdict s n) (none : r .code ≡ 0) where
-  pub admitted-ready : ((i : ℕ) → byteAt s i < 256) → Short s n → 16 * n ≤ length work → HeldIn s n work → Ready s n work
+  pub admitted-ready : ((i : ℕ) → byteAt s i < 256) → FileOpened s n → 16 * n ≤ length work → HeldIn s n work → Ready s n work
   admitted-ready small so room held =
       let t = verdict-told s n (ap (λ (q : Refusal). q .code) (sym is) ∙ none) in
-      ready s work n small (readable false s n (so .framed) (so .short) (t .read)) (dssi-read s n (so .framed) (t .read)) (dspm-read s n (so .framed) (t .read)) (t .read) (t .once) held room
+      ready s work n small (readable false s n (so .framed) (so .short) (t .read)) (dssi-read s n (so .framed) (t .read)) (dspm-read s n (so .framed) (t .read)) (t .read)
+      (t .once) held room
 
-module _ (cell out : List ℕ) (w n : ℕ) where
-  pub admitted-work : (a : Answer) → w < 16 * n → a ≡ answer 3 0 0 (16 * n) 0 → a ≡ admitChecked cell w (length out) n
-  unfolding admitChecked workAnswer
-  admitted-work a h e = e ∙ rw (lt-ltb w (16 * n) h)
+-- of an opened cell
+module _ (cell : List ℕ) (n : ℕ) (front : frontOf 1 cell ≡ Count n) (w : ℕ) where
+  pub admit-opened : (o : ℕ) → admitOf cell w o ≡ firstAnswer (workAnswer w n) (firstAnswer (filed 1 (cellVerdict cell n)) (heldAnswer o (chartOf cell n)))
+  unfolding admitOf
+  admit-opened o =
+      opening-on 1 cell (λ (k : ℕ). firstAnswer (workAnswer w k) (firstAnswer (filed 1 (cellVerdict cell k)) (heldAnswer o (chartOf cell k)))) n front
 
-  pub work-area : w < 16 * n → out ≡ checkedArea cell w n out
-  unfolding checkedArea admitChecked workAnswer
-  work-area h = rw (lt-ltb w (16 * n) h)
+  pub admitted-work : (o : ℕ) (a : Answer) → w < 16 * n → a ≡ answer 3 0 0 (16 * n) 0 → a ≡ admitOf cell w o
+  admitted-work o a h e = worked-short w n _ a h e ∙ sym (admit-opened o)
 
-  module _ (room : 16 * n ≤ w) (r : Refusal) (is : r ≡ cellVerdict cell n) where
-    pub admitted-filed : (a : Answer) → (r .code ≡ 0 → ⊥) → a ≡ filed 1 r → a ≡ admitChecked cell w (length out) n
-    unfolding admitChecked workAnswer firstRefusal
-    admitted-filed a ne e = e ∙ rw (le-ltb w (16 * n) room, ← is, ne-eqb (r .code) 0 ne)
+  module _ (room : 16 * n ≤ w) (r : Refusal) (is : r ≡ cellVerdict cell n) (o : ℕ) (a : Answer) where
+    pub admitted-filed : (r .code ≡ 0 → ⊥) → a ≡ filed 1 r → a ≡ admitOf cell w o
+    admitted-filed ne e = rw (admit-opened o, ← is) (worked-on w n _ a room (filed-first 1 r _ a ne e))
 
-    pub filed-area : (r .code ≡ 0 → ⊥) → out ≡ checkedArea cell w n out
-    unfolding checkedArea admitChecked workAnswer firstRefusal filed
-    filed-area ne = rw (le-ltb w (16 * n) room, ← is, ne-eqb (r .code) 0 ne, ne-eqb (r .code) 0 ne)
-
-    pub admitted-held : (a : Answer) → r .code ≡ 0 → a ≡ heldAnswer (length out) (chartOf cell n) → a ≡ admitChecked cell w (length out) n
-    unfolding admitChecked workAnswer firstRefusal
-    admitted-held a none e = e ∙ rw (le-ltb w (16 * n) room, ← is, eq-eqb (r .code) 0 none)
-
-    pub held-area : (next : List ℕ) → r .code ≡ 0 → next ≡ heldArea (chartOf cell n) out → next ≡ checkedArea cell w n out
-    unfolding heldArea checkedArea admitChecked workAnswer firstRefusal
-    held-area next none e = e ∙ rw (le-ltb w (16 * n) room, ← is, eq-eqb (r .code) 0 none)
+    pub admitted-held : r .code ≡ 0 → a ≡ heldAnswer o (chartOf cell n) → a ≡ admitOf cell w o
+    admitted-held none e = rw (admit-opened o, ← is) (worked-on w n _ a room (filed-on 1 r _ a none e))
 
 -- ---- admit
-module _ (cell : List ℕ) (w : ℕ) (f : Front) (is : f ≡ frontOf 1 cell) where
-  pub admit-refused : (o : ℕ) (a : Answer) → f ≡ Refused a → a ≡ admitOf cell w o
-  unfolding admitOf admitFront
-  admit-refused o a told = rw (← is, told)
+pub area-opened : (cell : List ℕ) (n : ℕ) → frontOf 1 cell ≡ Count n → (w : ℕ) (out next : List ℕ) (a : Answer) → a ≡ admitOf cell w (length out)
+    → next ≡ areaBy a (chartOf cell n) out → next ≡ admitArea cell w out
+unfolding admitArea recordsIn
+area-opened cell n front w out next a is e = e ∙ rw (front, is)
 
-  pub area-refused : (out : List ℕ) (a : Answer) → f ≡ Refused a → out ≡ admitArea cell w out
-  unfolding admitArea areaFront
-  area-refused out a told = rw (← is, told)
+module _ (cell : List ℕ) (f : Front) (is : f ≡ frontOf 1 cell) (a : Answer) (told : f ≡ Refused a) where
+  pub admit-refused : (w o : ℕ) → a ≡ admitOf cell w o
+  unfolding admitOf
+  admit-refused w o = opened-refused 1 cell f is _ a told
 
-  module _ (n : ℕ) (told : f ≡ Count n) where
-    pub admit-on : (o : ℕ) (a : Answer) → a ≡ admitChecked cell w o n → a ≡ admitOf cell w o
-    unfolding admitOf admitFront
-    admit-on o a e = e ∙ rw (← is, told)
-
-    pub area-on : (out next : List ℕ) → next ≡ checkedArea cell w n out → next ≡ admitArea cell w out
-    unfolding admitArea areaFront
-    area-on out next e = e ∙ rw (← is, told)
+  pub area-refused : (w : ℕ) (out : List ℕ) → out ≡ admitArea cell w out
+  unfolding admitArea
+  area-refused w out = rw (← admit-refused w (length out)) (area-kept (cellChart cell) out a (front-refused 1 cell a (sym is ∙ told)))

@@ -6,29 +6,27 @@ use mathlib.Core.Option.{Option, none, some}
 use mathlib.Core.Path.{_≡_, refl, ap}
 use native.Mathlib.Omega.{arith}
 use lib.ListN.{length}
-use lib.Dec.{eqb, ltb, leb}
+use lib.Dec.{eqb, ltb}
 use Rattle.octets.specs.Number.{numAt}
 use Rattle.iso8211.specs.Record.{endOf}
 use Rattle.iso8211.specs.File.{recordAt}
-use Rattle.iso8211.specs.Same.{sameList}
-use Rattle.chart.specs.Read.{readFault}
-use Rattle.chart.specs.declared.read.Refusal.{Refusal}
-use Rattle.names.specs.Names.{twiceOf}
-use Rattle.reader.specs.Reader.{cellFault, updateFault, twiceRefusal}
-use Rattle.reader.specs.declared.answer.Answer.{Answer}
-use Rattle.objects.specs.Object.{Object}
-use Rattle.held.specs.Chart.{Header, Chart, objectName, objectsFrom, insertObject, heldOrder, chartOf}
+use Rattle.fieldparts.specs.Same.{sameList}
+use Rattle.reader.specs.Reader.{cellFault, updateFault}
+use Rattle.items.specs.Item.{Item, itemName}
+use Rattle.names.specs.Held.{heldItems}
+use Rattle.held.specs.Chart.{Header, Chart, chartOf}
 use Rattle.edits.specs.InsertDelete.{insertAllowed}
 use Rattle.merge.specs.Update as merge
 use Rattle.changes.specs.Change.{Amendment, editOf, Change, amendmentsFrom, changeOf}
 use Rattle.changes.specs.Follow.{chartName, followCode}
 use Rattle.changes.specs.Amend.{kindsOf, insertCode, identitySame, editAllowed, modifyCode, foundCode, heldBy, amendmentCode, amendmentsFault, changeFault, placedIn}
 use Rattle.changes.specs.Updated.{byAmendment, updated}
-use Rattle.verdict.specs.Verdict.{objectItems, chartTopology}
-use Rattle.loader.specs.Answer.{answerBytes}
-use Rattle.loader.specs.Apply.{firstAnswer, resultOf, changeAnswer, applyChecked, applySecond, applyFirst, applyOf}
-use Rattle.loader.proofs.ReadLaws.{Few, few-more, few-made, few-cond, read-few, twice-few, cell-few, cond-least, items-few}
-use Rattle.loader.proofs.ReadLaws.{Small, small-cond, small-filed, small-work, small-first, small-held, front-cases, ReadsAs, bytes-read}
+use Rattle.verdict.specs.Verdict.{chartTopology}
+use Rattle.loader.specs.Apply.{resultOf, applyOf}
+use Rattle.loader.proofs.ReadLaws.{held-length, cell-few, cond-least, items-few, small-work, small-held, update-few, small-opening}
+use Rattle.answers.specs.declared.refusal.Refusal.{Refusal}
+use Rattle.answers.specs.Sixteen.{answerBytes}
+use Rattle.answers.proofs.SmallLaws.{Few, few-more, few-made, few-cond, few-first, Small, small-filed, small-first, ReadsAs, bytes-read}
 
 -- ---- how many records and objects there are
 amendments-length : (n : ℕ) (s : List ℕ) (at : ℕ) → length (amendmentsFrom n s at) ≡ n
@@ -36,31 +34,9 @@ unfolding amendmentsFrom
 amendments-length zero s at = refl
 amendments-length (suc n) s at = ap suc (amendments-length n s (endOf s at))
 
-objects-length : (n : ℕ) (s : List ℕ) (at : ℕ) → length (objectsFrom n s at) ≡ n
-unfolding objectsFrom
-objects-length zero s at = refl
-objects-length (suc n) s at = ap suc (objects-length n s (endOf s at))
-
 cond-length : {A : Type 0} (b : Bool) (x y : List A) (m : ℕ) → length x ≤ m → length y ≤ m → length (cond b x y) ≤ m
 cond-length true x y m h k = h
 cond-length false x y m h k = k
-
-insert-length : (t : Object) (ts : List Object) → length (insertObject t ts) ≤ suc (length ts)
-unfolding insertObject
-insert-length t [] = omega arith
-insert-length t (u ∷ us) =
-    let more = insert-length t us in
-    cond-length (leb (objectName t) (objectName u)) (t ∷ u ∷ us) (u ∷ insertObject t us) (suc (length (u ∷ us))) (omega arith) (omega arith)
-
-order-length : (ts : List Object) → length (heldOrder ts) ≤ length ts
-unfolding heldOrder
-order-length [] = omega arith
-order-length (t ∷ ts) = let more = order-length ts in let one = insert-length t (heldOrder ts) in omega arith
-
-items-length : (ts : List Object) → length (objectItems ts) ≡ length ts
-unfolding objectItems
-items-length [] = refl
-items-length (t ∷ ts) = ap suc (items-length ts)
 
 -- ---- a record of an update brings one object at most
 module _ {A : Type 0} (key : A → ℕ) where
@@ -98,15 +74,6 @@ module _ {A U : Type 0} (by : merge.Change A U) where
   result-length held (u ∷ us) =
       let one = obeyed-length u held in let more = result-length (merge.obeyed by u held) us in omega arith
 
--- ---- codes 4 to 7 of an update
-update-few : (s : List ℕ) (m : ℕ) → Few (m + 3) (updateFault s m)
-unfolding updateFault twiceRefusal
-update-few s m =
-    few-cond (eqb (readFault true s m .code) 0)
-    (few-cond (eqb (twiceOf true s m .index) 0) (few-made 0 0 0 (omega arith) (omega arith))
-    (few-made 7 (twiceOf true s m .index) (twiceOf true s m .offset) (omega arith) (twice-few true s m)))
-    (read-few true s m)
-
 -- ---- codes 9 to 16
 follow-least : (h : Header) (u : Change) → followCode h u ≤ 22
 unfolding followCode
@@ -121,29 +88,28 @@ unfolding insertCode
 insert-least a =
     cond-least (eqb (a .object .version) 1) _ _ 22 (cond-least (insertAllowed (kindsOf (a .object .rcnm)) (editOf a)) 0 16 22 (omega arith) (omega arith)) (omega arith)
 
-modify-least : (a : Amendment) (held : Object) → modifyCode a held ≤ 22
+modify-least : (a : Amendment) (held : Item) → modifyCode a held ≤ 22
 unfolding modifyCode
 modify-least a held =
     cond-least (eqb (a .object .version) (held .version + 1)) _ _ 22
     (cond-least (identitySame (a .object) held) _ _ 22 (cond-least (editAllowed a held) 0 16 22 (omega arith) (omega arith)) (omega arith)) (omega arith)
 
-found-least : (a : Amendment) (held : Option Object) → foundCode a held ≤ 22
+found-least : (a : Amendment) (held : Option Item) → foundCode a held ≤ 22
 unfolding foundCode
 found-least a none = cond-least (eqb (a .ruin) 1) _ _ 22 (insert-least a) (omega arith)
 found-least a (some held) = cond-least (eqb (a .ruin) 1) _ _ 22 (omega arith) (modify-least a held)
 
-amendments-few : (held : List Object) (k : ℕ) (us : List Amendment) → Few (k + length us) (amendmentsFault held k us)
+amendments-few : (held : List Item) (k : ℕ) (us : List Amendment) → Few (k + length us) (amendmentsFault held k us)
 unfolding amendmentsFault amendmentCode
 amendments-few held k [] = few-made 0 0 0 (omega arith) (omega arith)
 amendments-few held k (a ∷ us) =
-    few-cond (eqb (amendmentCode held a) 0) (few-more (omega arith) (amendments-few held (k + 1) us))
-    (few-made (amendmentCode held a) k 0 (found-least a (heldBy held (objectName (a .object)))) (omega arith))
+    few-first (few-made (amendmentCode held a) k 0 (found-least a (heldBy held (itemName (a .object)))) (omega arith))
+    (few-more (omega arith) (amendments-few held (k + 1) us))
 
 change-few : (c : Chart) (u : Change) → Few (2 + length (u .amendments)) (changeFault c u)
 unfolding changeFault
 change-few c u =
-    few-cond (eqb (followCode (c .header) u) 0) (amendments-few (c .objects) 2 (u .amendments))
-    (few-made (followCode (c .header) u) 1 0 (follow-least (c .header) u) (omega arith))
+    few-first (few-made (followCode (c .header) u) 1 0 (follow-least (c .header) u) (omega arith)) (amendments-few (c .items) 2 (u .amendments))
 
 placed-few : {m : ℕ} (s : List ℕ) (r : Refusal) → Few m r → Few m (placedIn s r)
 unfolding placedIn
@@ -157,15 +123,13 @@ change-placed cell n update m =
     placed-few update (changeFault (chartOf cell n) (changeOf update m)) (few-more (omega arith) (change-few (chartOf cell n) (changeOf update m)))
 
 -- ---- codes 17 to 19 of the result: it holds no more than the cell's objects and the update's records
-objects-few : (cell : List ℕ) (n : ℕ) (update : List ℕ) (m : ℕ) → length (resultOf cell n update m .objects) ≤ n + m
+objects-few : (cell : List ℕ) (n : ℕ) (update : List ℕ) (m : ℕ) → length (resultOf cell n update m .items) ≤ n + m
 unfolding updated chartOf changeOf
 objects-few cell n update m =
-    let read = objectsFrom (n - 3) cell (recordAt cell 3) in
     let come = amendmentsFrom (m - 2) update (recordAt update 2) in
-    let held = objects-length (n - 3) cell (recordAt cell 3) in
-    let ordered = order-length read in
+    let held = held-length cell n in
     let long = amendments-length (m - 2) update (recordAt update 2) in
-    let made = result-length byAmendment (heldOrder read) come in
+    let made = result-length byAmendment (heldItems cell n) come in
     omega arith
 
 result-few : (cell : List ℕ) (n : ℕ) (update : List ℕ) (m : ℕ) → Few (3 + (n + m)) (chartTopology (resultOf cell n update m))
@@ -173,33 +137,21 @@ unfolding chartTopology
 result-few cell n update m =
     let c = resultOf cell n update m in
     let objects = objects-few cell n update m in
-    let same = items-length (c .objects) in
-    few-more (omega arith) (items-few (numAt (c .header .dspm) 16 4) (objectItems (c .objects)))
+    few-more (omega arith) (items-few (numAt (c .header .dspm) 16 4) (c .items))
 
 -- ---- the answer's four numbers
-small-before : {a on : Answer} → Small a → Small on → Small (firstAnswer a on)
-unfolding firstAnswer
-small-before {a} small on = small-cond (eqb (a .code) 0) on small
-
-module _ (cell : List ℕ) (n : ℕ) (update : List ℕ) (m w o : ℕ) (held : n ≤ 5242880) (come : m ≤ 5242880) where
-  small-change : Small (changeAnswer cell n update m o)
-  unfolding changeAnswer
-  small-change =
-      small-before (small-filed 2 _ (omega arith) (change-placed cell n update m) (omega arith))
-      (small-before (small-filed 3 _ (omega arith) (result-few cell n update m) (omega arith)) (small-held o (resultOf cell n update m)))
-
-  small-applied : Small (applyChecked cell n update m w o)
-  unfolding applyChecked
-  small-applied =
-      small-work w (n + m) (omega arith)
-      (small-first (cellFault cell n) (cell-few cell n) (omega arith)
-      (small-before (small-filed 2 _ (omega arith) (update-few update m) (omega arith)) small-change))
-
 pub apply-small : (cell update : List ℕ) (w o : ℕ) → Small (applyOf cell update w o)
-unfolding applyOf applyFirst applySecond
+unfolding applyOf
 apply-small cell update w o =
-    front-cases (λ f. Small (applyFirst cell update w o f)) 1 cell (omega arith) (λ a small. small)
-    (λ n held. front-cases (λ f. Small (applySecond cell n update w o f)) 2 update (omega arith) (λ a small. small) (λ m come. small-applied cell n update m w o held come))
+    small-opening 1 cell _ (omega arith)
+    (λ n held.
+    small-opening 2 update _ (omega arith)
+    (λ m come.
+    small-first (small-work w (n + m) (omega arith))
+    (small-first (small-filed 1 (cellFault cell n) (omega arith) (cell-few cell n) (omega arith))
+    (small-first (small-filed 2 (updateFault update m) (omega arith) (update-few update m) (omega arith))
+    (small-first (small-filed 2 _ (omega arith) (change-placed cell n update m) (omega arith))
+    (small-first (small-filed 3 _ (omega arith) (result-few cell n update m) (omega arith)) (small-held o (resultOf cell n update m))))))))
 
 -- "fills a 16-byte answer (code, file, record, number, each 4 bytes, low byte first)"
 pub apply-reads : (cell update : List ℕ) (w o : ℕ) → ReadsAs (answerBytes (applyOf cell update w o)) (applyOf cell update w o)

@@ -15,18 +15,20 @@ use Rattle.table.specs.Text.{bytes}
 use Rattle.values.specs.Class.{isCollection}
 use Rattle.values.specs.Rule.{within}
 use Rattle.items.specs.Identity.{rankOf, nameFrom}
-use Rattle.items.specs.Item.{Item, itemName}
-use Rattle.names.specs.Lookup.{nameIn, foundCode}
+use Rattle.items.specs.Item.{Item, isFeature}
+use Rattle.lookups.specs.Lookup.{nameIn, foundCode}
 use Rattle.names.specs.Held.{placeFrom, placeIn, objectIn}
-use Rattle.shape.specs.Shape.{magnitude, pairGood, coordinatesGood, isolatedGood, connectedGood, endGood, addTopi, edgeGood, classGood, vectorGood, isNode, pointGood, oneOrTwo}
-use Rattle.shape.specs.Shape.{lineGood, areaGood, spatialGood, spatialCount, featureGood, shapeGood, shapeCode}
-use Rattle.pointer.specs.Pointer.{firstCode, namesCode, lnamsCode, pointerCode}
+use Rattle.vectorshape.specs.Shape.{magnitude, pairGood, coordinatesGood, isolatedGood, connectedGood, endGood, addTopi, edgeGood, classGood, vectorGood, isNode, pointGood}
+use Rattle.vectorshape.specs.Shape.{oneOrTwo}
+use Rattle.vectorshape.specs.Shape.{lineGood, areaGood, spatialGood, spatialCount, featureGood, shapeGood, shapeCode}
+use Rattle.pointer.specs.Pointer.{namesCode, lnamsCode, pointerCode}
+use Rattle.answers.specs.First.{firstBy}
 use Rattle.ring.specs.Ring.{nodeStep, nodeWith, nodeOf, nodesOf, found, nodeIn, stepOf, usageGood, along, ringsFrom, ringsGood, ringCode}
 use Rattle.records.specs.Pieces.{Piece}
 use Rattle.records.specs.Written.{tagBytes, bodyOf, rowsFor, longest, farthest, rowBytes, rowsBytes, baseFor, leaderOf, headOver, headBytes, recordBytes, sizeOf}
-use Rattle.objects.specs.Object.{Object, isFeature, listPiece, listPieces, vridBytes, vectorPieces, featurePieces, objectPieces}
+use Rattle.itemfields.specs.Fields.{listPiece, listPieces, vridBytes, vectorPieces, featurePieces, itemPieces}
 use Rattle.attributes.specs.Attributes.{labelOf, isRemoval}
-use Rattle.chart.specs.Value.{isAttributes}
+use Rattle.fieldvalue.specs.Value.{isAttributes}
 use Rattle.edits.specs.Control.{Control, gone, come, allowed, edited, editedBy}
 use Rattle.edits.specs.AttributeEdit.{named, change, finds, changes, changesFind}
 use Rattle.edits.specs.Lists.{isNone, coordinates, controlOf, listAllowed, listEdited, allowedAt, listsAllowed, listsEdited}
@@ -39,7 +41,7 @@ use Rattle.topology.specs.Topology.{itemCode, codeAmong, faultFrom, topologyOf}
 -- ---- small charts
 -- an item of this class, with one list
 unfoldable pub item : ℕ → ℕ → ℕ → List (List ℕ) → Item
-item rcnm rcid kind es = record { place = 0; rcnm = rcnm; rcid = rcid; prim = 3; objl = 1; foid = 0; entries = λ (k : ℕ). cond (eqb k kind) es [] }
+item rcnm rcid kind es = record { rcnm = rcnm; rcid = rcid; version = 1; prim = 3; grup = 2; objl = 1; foid = 0; lists = λ (k : ℕ). cond (eqb k kind) es [] }
 
 -- a connected node with one pair
 unfoldable pub node : ℕ → Item
@@ -73,7 +75,7 @@ isolated x = item 110 1 SG2D ((bytesOf 4 0 ++ bytesOf 4 x) ∷ []) ∷ []
 
 -- ---- vectors as the held form writes them
 -- a vector of this class, with one list
-unfoldable pub vector : ℕ → ℕ → List (List ℕ) → Object
+unfoldable pub vector : ℕ → ℕ → List (List ℕ) → Item
 vector rcnm kind es = record {
   rcnm = rcnm;
   rcid = 1;
@@ -87,10 +89,10 @@ vector rcnm kind es = record {
 
 -- "Connected node", "Edge, no coordinates"
 unfoldable pub heldNode : List Piece
-heldNode = objectPieces 3 (vector 120 SG2D ((bytesOf 4 0 ++ bytesOf 4 0) ∷ []))
+heldNode = itemPieces 3 (vector 120 SG2D ((bytesOf 4 0 ++ bytesOf 4 0) ∷ []))
 
 unfoldable pub heldEdge : List Piece
-heldEdge = objectPieces 3 (vector 130 VRPT (end 1 1 ∷ end 2 2 ∷ []))
+heldEdge = itemPieces 3 (vector 130 VRPT (end 1 1 ∷ end 2 2 ∷ []))
 
 -- the lengths of a record's fields
 unfoldable pub lengths : List (List ℕ) → List ℕ
@@ -158,13 +160,13 @@ pub bench-sheet : (
     ∷ (0 ∷ [])
     ∷ []
 unfolding item node end edge along-edge area triangle loops isolated vector heldNode heldEdge lengths verdict
-    numAt bytesOf allOf through within isCollection rankOf nameFrom itemName nameIn foundCode placeFrom placeIn objectIn
+    numAt bytesOf allOf through within isCollection rankOf nameFrom nameIn foundCode placeFrom placeIn objectIn
     magnitude pairGood coordinatesGood isolatedGood connectedGood endGood addTopi edgeGood classGood vectorGood isNode pointGood oneOrTwo lineGood areaGood
-    spatialGood spatialCount featureGood shapeGood shapeCode firstCode namesCode lnamsCode pointerCode
+    spatialGood spatialCount featureGood shapeGood shapeCode firstBy namesCode lnamsCode pointerCode
     nodeStep nodeWith nodeOf nodesOf found nodeIn stepOf usageGood along ringsFrom ringsGood ringCode
     itemCode codeAmong faultFrom topologyOf
     digitsOf fewest fewestFrom rowOf table tagOf asNumber bytes tagBytes bodyOf rowsFor longest farthest rowBytes rowsBytes baseFor leaderOf headOver headBytes recordBytes sizeOf
-    isFeature listPiece listPieces vridBytes vectorPieces featurePieces objectPieces flatten
+    isFeature listPiece listPieces vridBytes vectorPieces featurePieces itemPieces flatten
     modifying outcome byControl byLabel gone come allowed edited editedBy labelOf isRemoval named change finds changes changesFind
     isAttributes isNone coordinates controlOf listAllowed listEdited allowedAt listsAllowed listsEdited
     heldBy kindsOf identitySame editAllowed modifyCode amend.foundCode amendmentCode amended

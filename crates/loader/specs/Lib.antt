@@ -1,6 +1,4 @@
 -- The notions of `loader`, in the order in which a reader should meet them.
-pub mod Judge
 pub mod Admit
 pub mod Apply
-pub mod Answer
 pub mod BenchSheet

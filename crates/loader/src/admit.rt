@@ -1,16 +1,20 @@
 // Admit: a cell; writes its held form.
-ghost use Prim.Native.Nat.{_*_, _-_};
 ghost use mathlib.Core.Path.{_≡_};
 ghost use lib.ListN.{length, replicate};
 ghost use Rattle.held.specs.Chart.{chartOf};
-ghost use Rattle.reader.specs.Reader.{Short};
+ghost use Rattle.reader.specs.Reader.{frontOf};
 ghost use Rattle.reissue.specs.Plan.{Ready};
-ghost use Rattle.loader.specs.Admit.{heldAnswer, heldArea, admitChecked, checkedArea, admitOf, admitArea};
-use crate::judge::cell_verdict;
+ghost use Rattle.loader.specs.Admit.{heldAnswer, areaBy, admitOf, admitArea};
+use answers::Answer;
+use answers::answer::answered;
+use answers::answer::filed;
+use answers::codes::MOST_RECORDS;
+use answers::codes::ROOM;
+use answers::codes::SIZE;
+use answers::codes::WORK;
+use answers::codes::WORK_EACH;
+use judging::judge::cell_verdict;
 use octets::area::clear;
-use reader::Answer;
-use reader::answer::answered;
-use reader::answer::filed;
 use reader::front::Front;
 use reader::front::opened;
 use reissue::plan::planned;
@@ -21,32 +25,32 @@ use reissue::write::put_chart;
 fn held_into(cell: &[u8], n: usize, out: &mut [u8], work: &[u8]) -> Answer
     requires { ⌜ Ready (now cell) n (now work) ⌝ }
     ensures { λ r. ⌜ r ≡ heldAnswer (length (now (out .entry))) (chartOf (now (cell .entry)) n) ⌝ }
-    ensures { λ _. ⌜ now (out .exit) ≡ heldArea (chartOf (now (cell .entry)) n) (now (out .entry)) ⌝ }
+    ensures { λ r. ⌜ now (out .exit) ≡ areaBy r (chartOf (now (cell .entry)) n) (now (out .entry)) ⌝ }
 {
-    if 65536 < n {
-        return answered(20, 3, 0, 0, 0);
+    if MOST_RECORDS < n {
+        return answered(SIZE, 3, 0, 0, 0);
     }
     let m = n - 3;
     let plan = planned(cell, m, work);
     if !plan.fits {
-        return answered(20, 3, 0, 0, 0);
+        return answered(SIZE, 3, 0, 0, 0);
     }
     let total = plan.total;
     if out.len() < total {
-        return answered(21, 0, 0, total, 0);
+        return answered(ROOM, 0, 0, total, 0);
     }
     put_chart(cell, m, work, out);
     answered(0, 0, 0, total, 0)
 }
 
-// A framed cell of n records: code 3, then 4 to 8, 17 to 19, then these.
+// An opened cell of n records: code 3, then 4 to 8, 17 to 19, then these.
 fn admitted(cell: &[u8], n: usize, out: &mut [u8], work: &mut [u8]) -> Answer
-    requires { ⌜ Short (now cell) n ⌝ }
-    ensures { λ r. ⌜ r ≡ admitChecked (now (cell .entry)) (length (now (work .entry))) (length (now (out .entry))) n ⌝ }
-    ensures { λ _. ⌜ now (out .exit) ≡ checkedArea (now (cell .entry)) (length (now (work .entry))) n (now (out .entry)) ⌝ }
+    requires { ⌜ frontOf 1 (now cell) ≡ Front.Count n ⌝ }
+    ensures { λ r. ⌜ r ≡ admitOf (now (cell .entry)) (length (now (work .entry))) (length (now (out .entry))) ⌝ }
+    ensures { λ r. ⌜ now (out .exit) ≡ areaBy r (chartOf (now (cell .entry)) n) (now (out .entry)) ⌝ }
 {
-    if work.len() < 16 * n {
-        return answered(3, 0, 0, 16 * n, 0);
+    if work.len() < WORK_EACH * n {
+        return answered(WORK, 0, 0, WORK_EACH * n, 0);
     }
     let r = cell_verdict(cell, n, work);
     let code = r.code;

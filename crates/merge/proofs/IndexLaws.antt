@@ -6,12 +6,12 @@ use mathlib.Core.Path.{_≡_, refl, sym, ap, _∙_, fun-ext}
 use native.Mathlib.Nat.{sub-zero}
 use lib.Dec.{eqb}
 use Rattle.words.specs.Words.{wordsIn}
-use Rattle.items.specs.Identity.{nameOf, placeOf}
+use Rattle.items.specs.Word.{nameOf, wordOffset}
 use Rattle.items.specs.Item.{Item, itemName}
-use Rattle.names.specs.Lookup.{lookup, indexFrom, indexOf}
+use Rattle.lookups.specs.LookupWords.{lookup, indexFrom, indexOf}
 use Rattle.names.specs.Held.{placeFrom, placeIn}
-use Rattle.names.specs.declared.lookup.Found.{Found}
-use Rattle.names.specs.declared.lookup.Found.the-variants.{At, Nothing}
+use Rattle.lookups.specs.declared.lookup.Found.{Found}
+use Rattle.lookups.specs.declared.lookup.Found.the-variants.{At, Nothing}
 use Rattle.merge.specs.Words.{hasName}
 use Rattle.merge.specs.Area.{wordsBack}
 use Rattle.merge.specs.Places.{joined, single, double, thingOf, placesFrom, placesOf}
@@ -27,7 +27,7 @@ found-name : (ws : List ℕ) (name : ℕ) → hasName name ws ≡ isFound (looku
 unfolding lookup hasName isFound
 found-name [] name = refl
 found-name (w ∷ ws) name = pick (eqb (nameOf w) name) (found-name ws name) where
-  pick : (z : Bool) → hasName name ws ≡ isFound (lookup ws name) → (z || hasName name ws) ≡ isFound (cond z (At (placeOf w)) (lookup ws name))
+  pick : (z : Bool) → hasName name ws ≡ isFound (lookup ws name) → (z || hasName name ws) ≡ isFound (cond z (At (wordOffset w)) (lookup ws name))
   pick true rest = refl
   pick false rest = rest
 

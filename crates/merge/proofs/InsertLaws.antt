@@ -10,11 +10,11 @@ use lib.Dec.{eqb, ltb}
 use borrow.Author.Tests.{eqb-true}
 use Rattle.octets.proofs.Cases.{true-or-false}
 use Rattle.words.specs.Order.{sorted}
-use Rattle.items.specs.Identity.{ruinAt, nameOf, placeOf}
-use Rattle.names.specs.Names.{nameWords}
+use Rattle.items.specs.Identity.{ruinAt}
+use Rattle.items.specs.Word.{nameOf, wordOffset, markOf, markedOffset, marked}
+use Rattle.names.specs.NameWords.{nameWords}
 use Rattle.merge.specs.Update.{placed, without, changed, obeyed, result}
 use Rattle.merge.specs.Updated.{AllFit}
-use Rattle.merge.specs.Words.{markOf, offsetOf, marked}
 use Rattle.merge.specs.Places.{single, thingOf, placesOf}
 use Rattle.merge.specs.Woven.{Wove}
 use Rattle.merge.specs.Meant.{AllKeyed, keyed-none, keyed-more, AllLow, low-none, low-more}
@@ -36,7 +36,7 @@ module _ (b : List ℕ) where
   some-insert true f g = f
   some-insert false f g = g
 
-  placed-insert : (p : At) (l : List At) → (markOf (p .word) ≡ 1 → ruinAt b (offsetOf (p .word)) ≡ 1) → AllInsert b l → AllInsert b (placed keyAt p l)
+  placed-insert : (p : At) (l : List At) → (markOf (p .word) ≡ 1 → ruinAt b (markedOffset (p .word)) ≡ 1) → AllInsert b l → AllInsert b (placed keyAt p l)
   unfolding placed
   placed-insert p [] is insert-none = insert-more is insert-none
   placed-insert p (q ∷ l) is (insert-more so rest) =
@@ -56,14 +56,14 @@ module _ (b : List ℕ) where
     pick true more = insert-more {p = changedAt u q} so more
     pick false more = insert-more so more
 
-  obeyed-insert : (w : ℕ) (l : List At) → placeOf w < 8388608 → AllInsert b l → AllInsert b (obeyed (changeBy b keyAt single changedAt) w l)
+  obeyed-insert : (w : ℕ) (l : List At) → wordOffset w < 8388608 → AllInsert b l → AllInsert b (obeyed (changeBy b keyAt single changedAt) w l)
   unfolding obeyed
   obeyed-insert w l h all =
-      ⊎-elim (λ (e : eqb (ruinAt b (placeOf w)) 1 ≡ true).
-      rw e (placed-insert (single (marked w)) l (λ m. rw (set-offset w ∙ low-offset w h) (eqb-true (ruinAt b (placeOf w)) 1 e)) all))
-      (λ (e : eqb (ruinAt b (placeOf w)) 1 ≡ false).
-      rw e (some-insert (eqb (ruinAt b (placeOf w)) 2) (without-insert (nameOf w) l all) (changed-insert (nameOf w) w l all)))
-      (true-or-false (eqb (ruinAt b (placeOf w)) 1))
+      ⊎-elim (λ (e : eqb (ruinAt b (wordOffset w)) 1 ≡ true).
+      rw e (placed-insert (single (marked w)) l (λ m. rw (set-offset w ∙ low-offset w h) (eqb-true (ruinAt b (wordOffset w)) 1 e)) all))
+      (λ (e : eqb (ruinAt b (wordOffset w)) 1 ≡ false).
+      rw e (some-insert (eqb (ruinAt b (wordOffset w)) 2) (without-insert (nameOf w) l all) (changed-insert (nameOf w) w l all)))
+      (true-or-false (eqb (ruinAt b (wordOffset w)) 1))
 
   result-insert : (l : List At) (ws : List ℕ) → AllLow ws → AllInsert b l → AllInsert b (result (changeBy b keyAt single changedAt) l ws)
   unfolding result
@@ -91,11 +91,13 @@ update-keyed : (ws : List ℕ) → AllKeyed keyAt (λ (w : ℕ). single (marked 
 update-keyed [] = keyed-none
 update-keyed (w ∷ ws) = keyed-more (set-name w) (update-keyed ws)
 
-pub brought-insert : {a : List ℕ} {n : ℕ} {b : List ℕ} {m : ℕ} {work : List ℕ} (brought : Brought a n b m work) (i j : ℕ) (e : i ≡ n - 3) (f : j ≡ m - 2) {next : List ℕ} {r : Woven}
+pub brought-insert : {a : List ℕ} {n : ℕ} {b : List ℕ} {m : ℕ} {work : List ℕ} (brought : Brought a n b m work) (i j : ℕ) (e : i ≡ n - 3)
+    (f : j ≡ m - 2) {next : List ℕ} {r : Woven}
     → Wove b work i j next r → AllFit (changeBy b keyAt single changedAt) (map single (sorted (nameWords false a n))) (nameWords true b m)
     → AllInsert b (placesOf next (2 * (i + j)) (r .count) (r .edits))
 brought-insert {a} {n} {b} {m} brought i j e f wove fit =
     let cs = sorted (nameWords false a n) in
     let ws = nameWords true b m in
-    let same = brought-result brought i j e f wove {key = keyAt} {one = single} {edit = changedAt} (record { keep = λ u p. refl; cell = cell-keyed cs; update = update-keyed ws }) fit in
+    let same = brought-result brought i j e f wove {key = keyAt} {one = single} {edit = changedAt} (record { keep = λ u p. refl; cell = cell-keyed cs; update = update-keyed ws })
+    fit in
     places-insert b _ (rw same (result-insert b (map single cs) ws (file-low true (brought .update-read)) (cell-insert b cs (held-low false (brought .cell-read)))))

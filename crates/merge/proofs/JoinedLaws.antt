@@ -8,9 +8,9 @@ use native.Mathlib.Omega.{arith}
 use lib.Dec.{eqb}
 use borrow.Author.Tests.{ne-eqb, eq-eqb}
 use Rattle.octets.proofs.Cases.{true-or-false}
-use Rattle.items.specs.Identity.{nameOf}
+use Rattle.items.specs.Word.{nameOf, marked}
 use Rattle.merge.specs.Updated.{worked, updated, Over, over-none, over-more, Rising, rise-none, rise-more, AllMade, made-none, made-more}
-use Rattle.merge.specs.Words.{wordRules, resultWords, modifies, marked, deletes, hasName}
+use Rattle.merge.specs.Words.{wordRules, resultWords, modifies, deletes, hasName}
 use Rattle.merge.specs.Places.{joined}
 use Rattle.merge.specs.Meant.{thingRules, AllKeyed, keyed-none, keyed-more}
 use Rattle.merge.proofs.UpdatedLaws.{lt-or-le, worked-past, worked-new, worked-gone, worked-edit, over-less, rising-updated, worked-first}

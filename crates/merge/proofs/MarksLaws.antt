@@ -9,13 +9,14 @@ use lib.Seq.{drop-drop, take-take}
 use borrow.Author.Tests.{ne-eqb, eq-eqb}
 use Rattle.words.specs.Words.{wordAt, wordsIn, putAt}
 use Rattle.words.proofs.WordsLaws.{words-length, words-at, words-split, words-grow, word-back, put-length, put-front, put-back}
-use Rattle.items.specs.Identity.{ruinAt, placeOf}
-use Rattle.names.specs.Held.{Stands}
-use Rattle.merge.specs.Words.{marked, withRuin, withRuins}
+use Rattle.items.specs.Identity.{ruinAt}
+use Rattle.items.specs.Word.{wordOffset, marked}
+use Rattle.names.specs.Premises.{Stands}
+use Rattle.merge.specs.Words.{withRuin, withRuins}
 use Rattle.merge.specs.Area.{Standing, Marks}
 
 -- ---- one word
-module _ (s : List ℕ) (w r : ℕ) (told : r ≡ ruinAt s (placeOf w)) where
+module _ (s : List ℕ) (w r : ℕ) (told : r ≡ ruinAt s (wordOffset w)) where
   pub ruin-marked : (v : ℕ) → r ≡ 2 → v ≡ marked w → v ≡ withRuin s w
   unfolding withRuin
   ruin-marked v e is = is ∙ rw (← told, eq-eqb r 2 e)

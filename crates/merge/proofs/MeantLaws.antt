@@ -12,11 +12,13 @@ use Rattle.octets.proofs.Cases.{le-or-lt}
 use Rattle.words.specs.Words.{wordsIn}
 use Rattle.words.specs.Order.{insert, sorted}
 use Rattle.words.proofs.OrderLaws.{insert-here, insert-later}
-use Rattle.items.specs.Identity.{ruinAt, nameOf, placeOf}
-use Rattle.merge.specs.Update.{holds, targetGood, result}
-use Rattle.merge.specs.Updated.{Rules, rulesOf, worked, updated, Named, AllMade, made-none, made-more, Apart, AllFit}
-use Rattle.merge.specs.Updated.{Over, over-none, over-more, Rising, rise-none, rise-more}
-use Rattle.merge.specs.Words.{marked, withRuin, withRuins, deletes, hasName, resultWords, modifies}
+use Rattle.items.specs.Identity.{ruinAt}
+use Rattle.items.specs.Word.{nameOf, wordOffset, marked}
+use Rattle.merge.specs.Update.{result}
+use Rattle.merge.specs.Targets.{holds, targetGood}
+use Rattle.merge.specs.Updated.{Rules, rulesOf, worked, updated, Named, AllMade, made-none, made-more, Apart, AllFit, Over, over-none, over-more, Rising, rise-none}
+use Rattle.merge.specs.Updated.{rise-more}
+use Rattle.merge.specs.Words.{withRuin, withRuins, deletes, hasName, resultWords, modifies}
 use Rattle.merge.specs.Places.{single, double, thingOf, placesOf}
 use Rattle.merge.specs.Woven.{Warp, Wove}
 use Rattle.merge.specs.Files.{changeBy}
@@ -42,11 +44,11 @@ worked-same by like u v (a ∷ l) k n g m e =
     rw (worked-same by like u v l k n g m e, k a, n, m, gone-same l (by .edit u a) (like .edit v a) (by .gone u) (like .gone v) g (λ z. e z a))
 
 -- ---- places below the mark, sorted or not
-low-by : (x y : ℕ) (ws : List ℕ) → placeOf x < 8388608 → placeOf y < 8388608 → AllLow ws → AllLow (insert x ws) → (x ≤ y) ⊎ (y < x) → AllLow (insert x (y ∷ ws))
+low-by : (x y : ℕ) (ws : List ℕ) → wordOffset x < 8388608 → wordOffset y < 8388608 → AllLow ws → AllLow (insert x ws) → (x ≤ y) ⊎ (y < x) → AllLow (insert x (y ∷ ws))
 low-by x y ws hx hy low rest way =
     ⊎-elim (λ (h : x ≤ y). rw (insert-here x y ws h) (low-more hx (low-more hy low))) (λ (h : y < x). rw (insert-later x y ws h) (low-more hy rest)) way
 
-low-insert : (x : ℕ) (ws : List ℕ) → placeOf x < 8388608 → AllLow ws → AllLow (insert x ws)
+low-insert : (x : ℕ) (ws : List ℕ) → wordOffset x < 8388608 → AllLow ws → AllLow (insert x ws)
 unfolding insert
 low-insert x [] hx low-none = low-more hx low-none
 low-insert x (y ∷ ws) hx (low-more hy low) = low-by x y ws hx hy low (low-insert x ws hx low) (le-or-lt x y)
@@ -75,7 +77,7 @@ module _ {A : Type 0} {key : A → ℕ} {one : ℕ → A} where
 
   -- "13 Target", by words
   pub target-words : (b : List ℕ) (edit : ℕ → A → A) (cs : List ℕ) (w : ℕ) → AllKeyed key one cs
-      → targetGood (changeBy b key one edit) (map one cs) w ≡ cond (eqb (ruinAt b (placeOf w)) 1) (cond (hasName (nameOf w) cs) false true) (hasName (nameOf w) cs)
+      → targetGood (changeBy b key one edit) (map one cs) w ≡ cond (eqb (ruinAt b (wordOffset w)) 1) (cond (hasName (nameOf w) cs) false true) (hasName (nameOf w) cs)
   unfolding targetGood
   target-words b edit cs w all = rw (held-names (nameOf w) cs all)
 

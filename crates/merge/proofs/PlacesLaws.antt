@@ -9,7 +9,7 @@ use lib.Dec.{eqb}
 use lib.ListN.{length, take, drop}
 use Rattle.words.specs.Words.{wordsIn, putAt}
 use Rattle.words.proofs.WordsLaws.{words-length, words-front, word-back, words-put-behind}
-use Rattle.items.specs.Identity.{nameOf}
+use Rattle.items.specs.Word.{nameOf}
 use Rattle.merge.specs.Area.{wordsBack}
 use Rattle.merge.specs.Places.{joined, single, double, placesFrom, placesOf}
 use Rattle.merge.proofs.WeaveLaws.{back-same, back-put}

@@ -7,15 +7,16 @@ use native.Mathlib.Omega.{arith}
 use lib.Dec.{eqb}
 use lib.ListN.{length, getD}
 use borrow.Author.Tests.{eq-eqb}
-use Rattle.items.specs.Identity.{ruinAt, nameOf, placeOf}
-use Rattle.names.specs.Names.{Strict}
-use Rattle.merge.specs.Words.{markOf, offsetOf, marked, withRuin, withRuins, deletes}
+use Rattle.items.specs.Identity.{ruinAt}
+use Rattle.items.specs.Word.{nameOf, wordOffset, markOf, markedOffset, marked}
+use Rattle.names.specs.Premises.{Strict}
+use Rattle.merge.specs.Words.{withRuin, withRuins, deletes}
 
 -- ---- a word of a record that begins below the mark
-pub low-mark : (w : ℕ) → placeOf w < 8388608 → markOf w ≡ 0
+pub low-mark : (w : ℕ) → wordOffset w < 8388608 → markOf w ≡ 0
 low-mark w h = omega arith
 
-pub low-offset : (w : ℕ) → placeOf w < 8388608 → offsetOf w ≡ placeOf w
+pub low-offset : (w : ℕ) → wordOffset w < 8388608 → markedOffset w ≡ wordOffset w
 low-offset w h = omega arith
 
 -- ---- a marked word
@@ -23,7 +24,7 @@ pub set-mark : (w : ℕ) → markOf (marked w) ≡ 1
 unfolding marked
 set-mark w = omega arith
 
-pub set-offset : (w : ℕ) → offsetOf (marked w) ≡ offsetOf w
+pub set-offset : (w : ℕ) → markedOffset (marked w) ≡ markedOffset w
 unfolding marked
 set-offset w = omega arith
 
@@ -38,27 +39,27 @@ set-again w = omega arith
 -- ---- the words of an update, marked where they delete
 pub ruin-name : (b : List ℕ) (w : ℕ) → nameOf (withRuin b w) ≡ nameOf w
 unfolding withRuin
-ruin-name b w = pick (eqb (ruinAt b (placeOf w)) 2) where
+ruin-name b w = pick (eqb (ruinAt b (wordOffset w)) 2) where
   pick : (z : Bool) → nameOf (cond z (marked w) w) ≡ nameOf w
   pick true = set-name w
   pick false = refl
 
 pub ruin-set : (b : List ℕ) (w : ℕ) → marked (withRuin b w) ≡ marked w
 unfolding withRuin
-ruin-set b w = pick (eqb (ruinAt b (placeOf w)) 2) where
+ruin-set b w = pick (eqb (ruinAt b (wordOffset w)) 2) where
   pick : (z : Bool) → marked (cond z (marked w) w) ≡ marked w
   pick true = set-again w
   pick false = refl
 
-pub ruin-deletes : (b : List ℕ) (w : ℕ) → placeOf w < 8388608 → deletes (withRuin b w) ≡ eqb (ruinAt b (placeOf w)) 2
+pub ruin-deletes : (b : List ℕ) (w : ℕ) → wordOffset w < 8388608 → deletes (withRuin b w) ≡ eqb (ruinAt b (wordOffset w)) 2
 unfolding withRuin deletes
-ruin-deletes b w h = pick (eqb (ruinAt b (placeOf w)) 2) where
+ruin-deletes b w h = pick (eqb (ruinAt b (wordOffset w)) 2) where
   pick : (z : Bool) → eqb (markOf (cond z (marked w) w)) 1 ≡ z
   pick true = eq-eqb (markOf (marked w)) 1 (set-mark w)
   pick false = rw (low-mark w h)
 
 -- what doesn't delete is as it was
-pub ruin-same : (b : List ℕ) (w : ℕ) → eqb (ruinAt b (placeOf w)) 2 ≡ false → withRuin b w ≡ w
+pub ruin-same : (b : List ℕ) (w : ℕ) → eqb (ruinAt b (wordOffset w)) 2 ≡ false → withRuin b w ≡ w
 unfolding withRuin
 ruin-same b w e = rw e
 

@@ -10,16 +10,17 @@ use lib.Dec.{eqb}
 use borrow.Author.Tests.{eq-eqb}
 use Rattle.octets.proofs.Cases.{true-or-false}
 use Rattle.words.specs.Words.{wordsIn}
-use Rattle.items.specs.Identity.{ruinAt, nameOf, placeOf}
+use Rattle.items.specs.Identity.{ruinAt}
+use Rattle.items.specs.Word.{nameOf, wordOffset, markOf, markedOffset, marked}
 use Rattle.items.proofs.IdentityLaws.{word-name}
-use Rattle.names.specs.Held.{Stands, AllStand}
+use Rattle.names.specs.Premises.{Stands, AllStand}
 use Rattle.names.proofs.HeldLaws.{stand-first, stand-rest}
 use Rattle.merge.specs.Updated.{Rules, worked, updated, Over, over-none, over-more, Rising, rise-none, rise-more, AllMade, made-none, made-more}
-use Rattle.merge.specs.Words.{markOf, offsetOf, marked, withRuin, withRuins, deletes, resultWords, modifies}
+use Rattle.merge.specs.Words.{withRuin, withRuins, deletes, resultWords, modifies}
 use Rattle.merge.specs.Places.{joined, single, double, placesFrom, placesOf, Headed}
 use Rattle.merge.specs.Woven.{Warp, Wove}
 use Rattle.merge.specs.Meant.{thingRules, AllKeyed, keyed-none, keyed-more, AllLow, low-none, low-more}
-use Rattle.merge.specs.Sited.{Sits, Sited, AllSited, sited-none, sited-more, AllPlaces, places-none, places-more}
+use Rattle.merge.specs.Sited.{Sits, Sited, AllSited, sited-none, sited-more, AllOffsets, places-none, places-more}
 use Rattle.merge.specs.declared.walk.At.{At}
 use Rattle.merge.specs.declared.weave.Woven.{Woven}
 use Rattle.merge.proofs.UpdatedLaws.{lt-or-le, worked-past, worked-new, worked-gone, worked-edit}
@@ -29,18 +30,18 @@ use Rattle.merge.proofs.JoinedLaws.{joined-updated}
 use Rattle.merge.proofs.WovenLaws.{strict-rising}
 
 -- ---- the record of a word
-stands-sits : (such : ℕ → Type 0) {s : List ℕ} (w v : ℕ) → such (placeOf w) → Stands s w → offsetOf v ≡ placeOf w → nameOf v ≡ nameOf w → Sits such s v
+stands-sits : (such : ℕ → Type 0) {s : List ℕ} (w v : ℕ) → such (wordOffset w) → Stands s w → markedOffset v ≡ wordOffset w → nameOf v ≡ nameOf w → Sits such s v
 stands-sits such {s} w v is stands place name = record {
   is = rw place is;
   laid = rw place (stands .laid);
   known = rw place (stands .known);
-  name = rw (place, name) (ap (λ (x : ℕ). nameOf x) (stands .is) ∙ word-name s (placeOf w) (omega arith));
+  name = rw (place, name) (ap (λ (x : ℕ). nameOf x) (stands .is) ∙ word-name s (wordOffset w) (omega arith));
 }
 
-pub low-sits : (such : ℕ → Type 0) {s : List ℕ} (w : ℕ) → such (placeOf w) → Stands s w → placeOf w < 8388608 → Sits such s w
+pub low-sits : (such : ℕ → Type 0) {s : List ℕ} (w : ℕ) → such (wordOffset w) → Stands s w → wordOffset w < 8388608 → Sits such s w
 low-sits such w is stands h = stands-sits such w w is stands (low-offset w h) refl
 
-pub mark-sits : (such : ℕ → Type 0) {s : List ℕ} (w : ℕ) → such (placeOf w) → Stands s w → placeOf w < 8388608 → Sits such s (marked w)
+pub mark-sits : (such : ℕ → Type 0) {s : List ℕ} (w : ℕ) → such (wordOffset w) → Stands s w → wordOffset w < 8388608 → Sits such s (marked w)
 mark-sits such w is stands h = stands-sits such w (marked w) is stands (set-offset w ∙ low-offset w h) (set-name w)
 
 -- ---- the walk's items as things
@@ -73,7 +74,7 @@ module _ {P Q : ℕ → Type 0} {a b : List ℕ} where
   still-sited n [] still-none = sited-none
   still-sited n (p ∷ l) (still-more s rest) = sited-more (s .sited) (still-sited n l rest)
 
-  still-cell : (n : ℕ) (cs : List ℕ) → AllPlaces P cs → AllStand a cs → AllLow cs → AllStill P Q a b n (map single cs)
+  still-cell : (n : ℕ) (cs : List ℕ) → AllOffsets P cs → AllStand a cs → AllLow cs → AllStill P Q a b n (map single cs)
   still-cell n [] places-none stand low-none = still-none
   still-cell n (c ∷ cs) (places-more is such) stand (low-more h low) =
       still-more {p = single c} (record {
@@ -90,7 +91,7 @@ module _ {P Q : ℕ → Type 0} {a b : List ℕ} where
       }) (still-cell n cs such (stand-rest stand) low)
 
   -- ---- one record w of the update, all names of those before it being above its own
-  module _ (k w : ℕ) (is : Q (placeOf w)) (stands : Stands b w) (h : placeOf w < 8388608) (less : k ≤ nameOf w) where
+  module _ (k w : ℕ) (is : Q (wordOffset w)) (stands : Stands b w) (h : wordOffset w < 8388608) (less : k ≤ nameOf w) where
     new-still : Still P Q a b k (single (marked (withRuin b w)))
     new-still =
         let name : nameOf (marked (withRuin b w)) ≡ nameOf w = set-name (withRuin b w) ∙ ruin-name b w in
@@ -109,7 +110,7 @@ module _ {P Q : ℕ → Type 0} {a b : List ℕ} where
 
     edit-still : (p : At) → Still P Q a b (suc (nameOf w)) p → keyAt p ≡ nameOf (withRuin b w) → deletes (withRuin b w) ≡ false → Still P Q a b k (changedAt (withRuin b w) p)
     edit-still p s same keep =
-        let ruin : eqb (ruinAt b (placeOf w)) 2 ≡ false = sym (ruin-deletes b w h) ∙ keep in
+        let ruin : eqb (ruinAt b (wordOffset w)) 2 ≡ false = sym (ruin-deletes b w h) ∙ keep in
         let same-word : withRuin b w ≡ w = ruin-same b w ruin in
         let name = ruin-name b w in
         let plain : markOf (p .word) ≡ 0 = s .plain (omega arith) in
@@ -120,7 +121,7 @@ module _ {P Q : ℕ → Type 0} {a b : List ℕ} where
             held = λ e. plain;
             by = λ e. rw same-word (low-sits Q w is stands h);
             same = λ e. sym same;
-            edit = λ e f. true-false (sym (eq-eqb (ruinAt b (placeOf w)) 2 (rw (same-word, low-offset w h) at f)) ∙ ruin);
+            edit = λ e f. true-false (sym (eq-eqb (ruinAt b (wordOffset w)) 2 (rw (same-word, low-offset w h) at f)) ∙ ruin);
           };
           plain = λ low. absurd (omega arith);
           alone = λ low. absurd (omega arith);
@@ -151,8 +152,8 @@ module _ {P Q : ℕ → Type 0} {a b : List ℕ} where
         still-by p l s rest (still-worked l rest) (lt-or-le (keyAt p) n) (lt-or-le n (keyAt p)) (true-or-false (deletes (withRuin b w)))
 
 -- ---- all of them
-module _ {P Q : ℕ → Type 0} {a b : List ℕ} (cs : List ℕ) (such : AllPlaces P cs) (held : AllStand a cs) (cell : AllLow cs) where
-  still-updated : (n : ℕ) (ws : List ℕ) → Over (λ (w : ℕ). nameOf w) n ws → Rising (λ (w : ℕ). nameOf w) ws → AllPlaces Q ws → AllStand b ws → AllLow ws
+module _ {P Q : ℕ → Type 0} {a b : List ℕ} (cs : List ℕ) (such : AllOffsets P cs) (held : AllStand a cs) (cell : AllLow cs) where
+  still-updated : (n : ℕ) (ws : List ℕ) → Over (λ (w : ℕ). nameOf w) n ws → Rising (λ (w : ℕ). nameOf w) ws → AllOffsets Q ws → AllStand b ws → AllLow ws
       → AllStill P Q a b (suc n) (updated rules (map single cs) (withRuins b ws))
   unfolding updated withRuins
   still-updated n [] over-none rise-none places-none stand low-none = still-cell (suc n) cs such held cell
@@ -160,7 +161,7 @@ module _ {P Q : ℕ → Type 0} {a b : List ℕ} (cs : List ℕ) (such : AllPlac
       still-worked (suc n) w is (stand-first stand) h (omega arith) (updated rules (map single cs) (withRuins b ws))
       (still-updated (nameOf w) ws over up more (stand-rest stand) low)
 
-  sited-updated : (ws : List ℕ) → Rising (λ (w : ℕ). nameOf w) ws → AllPlaces Q ws → AllStand b ws → AllLow ws
+  sited-updated : (ws : List ℕ) → Rising (λ (w : ℕ). nameOf w) ws → AllOffsets Q ws → AllStand b ws → AllLow ws
       → AllSited P Q a b (updated rules (map single cs) (withRuins b ws))
   unfolding updated withRuins
   sited-updated [] rise-none places-none stand low-none = still-sited 0 (map single cs) (still-cell 0 cs such held cell)
@@ -179,7 +180,7 @@ single-made (u ∷ us) = made-more {u = u} (set-name u) (single-made us)
 
 module _ {P Q : ℕ → Type 0} {a b work : List ℕ} {n m : ℕ} {next : List ℕ} {r : Woven} (wove : Wove b work n m next r) (warp : Warp b work n m) where
   -- each item that the walk meets has its records laid out
-  pub woven-sited : AllPlaces P (wordsIn work (n + m) n) → AllPlaces Q (wordsIn work (n + m + n) m) → AllStand a (wordsIn work (n + m) n) → AllLow (wordsIn work (n + m) n)
+  pub woven-sited : AllOffsets P (wordsIn work (n + m) n) → AllOffsets Q (wordsIn work (n + m + n) m) → AllStand a (wordsIn work (n + m) n) → AllLow (wordsIn work (n + m) n)
       → AllLow (wordsIn work (n + m + n) m)
       → AllSited P Q a b (placesOf next (2 * (n + m)) (r .count) (r .edits))
   woven-sited such more held cell low =
@@ -192,7 +193,8 @@ module _ {P Q : ℕ → Type 0} {a b work : List ℕ} {n m : ℕ} {next : List �
       rw (wove .places, is) (sited-updated cs such held cell ws (strict-rising ws (warp .update)) more (warp .stand) low)
 
 -- ---- along the walk
-module _ {P Q : ℕ → Type 0} {a b s : List ℕ} {end count edits i j : ℕ} {p : At} (head : Headed s end count edits i j p) (all : AllSited P Q a b (placesFrom s end count edits i j)) where
+module _ {P Q : ℕ → Type 0} {a b s : List ℕ} {end count edits i j : ℕ} {p : At} (head : Headed s end count edits i j p)
+    (all : AllSited P Q a b (placesFrom s end count edits i j)) where
   here : {q : At} {ps : List At} → AllSited P Q a b (q ∷ ps) → Sited P Q a b q
   here (sited-more sited rest) = sited
 

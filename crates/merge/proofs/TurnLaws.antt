@@ -7,10 +7,10 @@ use native.Mathlib.Omega.{arith}
 use lib.ListN.{length, getD}
 use borrow.Author.Tests.{ne-eqb, eq-eqb}
 use Rattle.words.specs.Words.{wordAt, wordsIn}
-use Rattle.items.specs.Identity.{nameOf}
-use Rattle.names.specs.Names.{Strict}
+use Rattle.items.specs.Word.{nameOf, marked}
+use Rattle.names.specs.Premises.{Strict}
 use Rattle.merge.specs.Updated.{Over, over-none, over-more, Named, AllMade, made-none, made-more}
-use Rattle.merge.specs.Words.{wordRules, resultWords, modifies, marked, deletes, hasName}
+use Rattle.merge.specs.Words.{wordRules, resultWords, modifies, deletes, hasName}
 use Rattle.merge.specs.Area.{keptTurn, insertedTurn, deletedTurn, modifiedTurn, Turned}
 use Rattle.merge.specs.declared.turn.Turn.{Turn}
 use Rattle.merge.proofs.UpdatedLaws.{over-less, front-kept, front-new, front-gone, front-edit}

@@ -9,9 +9,10 @@ use native.Mathlib.Omega.{arith}
 use lib.Dec.{eqb}
 use borrow.Author.Tests.{lt-ltb, le-ltb, ne-eqb, eq-eqb}
 use Rattle.octets.proofs.Cases.{true-or-false}
-use Rattle.merge.specs.Updated.{rulesOf, worked, updated, Over, over-none, over-more, Rising, rise-none, rise-more}
-use Rattle.merge.specs.Updated.{Named, AllMade, made-none, made-more, Differs, diff-none, diff-more, Apart, apart-none, apart-more, AllFit, fit-none, fit-more}
-use Rattle.merge.specs.Update.{Change, holds, placed, without, changed, obeyed, result, targetGood}
+use Rattle.merge.specs.Updated.{rulesOf, worked, updated, Over, over-none, over-more, Rising, rise-none, rise-more, Named, AllMade, made-none, made-more, Differs}
+use Rattle.merge.specs.Updated.{diff-none, diff-more, Apart, apart-none, apart-more, AllFit, fit-none, fit-more}
+use Rattle.merge.specs.Update.{Change, placed, without, changed, obeyed, result}
+use Rattle.merge.specs.Targets.{holds, targetGood}
 use Rattle.merge.proofs.UpdatedLaws.{lt-or-le, worked-past, worked-new, worked-gone, worked-edit, over-less, rising-worked, rising-updated, worked-comm}
 
 pub true-false : true ≡ false → ⊥

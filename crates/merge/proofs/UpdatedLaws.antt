@@ -11,8 +11,8 @@ use borrow.Author.Tests.{lt-ltb, le-ltb}
 use Rattle.octets.proofs.Cases.{true-or-false, le-or-lt}
 use Rattle.words.specs.Order.{insert, sorted}
 use Rattle.words.proofs.OrderLaws.{insert-here, insert-later}
-use Rattle.merge.specs.Updated.{Rules, worked, updated, Over, over-none, over-more, Rising, rise-none, rise-more}
-use Rattle.merge.specs.Updated.{Named, AllMade, made-none, made-more, Differs, diff-none, diff-more, Apart, apart-none, apart-more}
+use Rattle.merge.specs.Updated.{Rules, worked, updated, Over, over-none, over-more, Rising, rise-none, rise-more, Named, AllMade, made-none, made-more, Differs}
+use Rattle.merge.specs.Updated.{diff-none, diff-more, Apart, apart-none, apart-more}
 
 pub lt-or-le : (a b : ℕ) → (a < b) ⊎ (b ≤ a)
 lt-or-le a b = ⊎-elim (λ (h : b ≤ a). inr h) (λ (h : a < b). inl h) (le-or-lt b a)

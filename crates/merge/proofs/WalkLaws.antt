@@ -7,7 +7,7 @@ use native.Mathlib.Numerals.{add-one}
 use native.Mathlib.Omega.{arith}
 use borrow.Author.Tests.{ne-eqb, eq-eqb}
 use Rattle.words.specs.Words.{wordAt, wordsIn}
-use Rattle.items.specs.Identity.{nameOf}
+use Rattle.items.specs.Word.{nameOf}
 use Rattle.merge.specs.Area.{wordsBack}
 use Rattle.merge.specs.Places.{joined, placesFrom, Headed}
 

@@ -8,9 +8,9 @@ use lib.ListN.{length, take, drop}
 use lib.Seq.{drop-drop, take-take}
 use Rattle.words.specs.Words.{wordAt, wordsIn, putAt}
 use Rattle.words.proofs.WordsLaws.{words-length, words-at, words-back, words-grow, put-length, put-front, put-back, word-front, put-same, put-other, words-put-behind}
-use Rattle.items.specs.Identity.{nameOf}
+use Rattle.items.specs.Word.{nameOf}
 use Rattle.merge.specs.Updated.{updated}
-use Rattle.names.specs.Names.{Strict}
+use Rattle.names.specs.Premises.{Strict}
 use Rattle.merge.specs.Words.{resultWords, modifies}
 use Rattle.merge.specs.Area.{wordsBack, Halves, Weaves, Turned, SetDown, Settled}
 use Rattle.merge.specs.declared.turn.Turn.{Turn}

@@ -9,8 +9,8 @@ use Rattle.words.specs.Words.{wordsIn}
 use Rattle.words.specs.Order.{Sorted}
 use Rattle.words.proofs.WordsLaws.{words-front}
 use Rattle.words.proofs.OrderLaws.{sorted-cons}
-use Rattle.items.specs.Identity.{nameOf}
-use Rattle.names.specs.Names.{Strict}
+use Rattle.items.specs.Word.{nameOf}
+use Rattle.names.specs.Premises.{Strict}
 use Rattle.merge.specs.Updated.{Over, over-none, over-more, Rising, rise-none, rise-more}
 use Rattle.merge.specs.Words.{withRuins, resultWords, modifies}
 use Rattle.merge.specs.Area.{wordsBack, Marks, Halves, Weaves, Settled}

@@ -1,12 +1,11 @@
--- The words in the work area while they are woven. Of n words of a cell and m of an update, h = n + m: the area has 2 * h words, and in its
--- second half those of the cell stand before those of the update. Assumes nothing.
+-- The words in the work area while they are woven. Of n words of a cell and m of an update, h = n + m: the area has 2 * h words, and in its second
+-- half those of the cell stand before those of the update. It serves the proofs, and nothing here need be believed. Assumes nothing.
 use Prim.Native.Nat.{ℕ, zero, suc, _+_, _-_, _*_, _^_, _≤_, _<_}
 use mathlib.Core.List.{List, [], _∷_, _++_}
 use mathlib.Core.Path.{_≡_}
 use lib.ListN.{length, take, drop}
 use Rattle.words.specs.Words.{wordAt, wordsIn, putAt}
-use Rattle.names.specs.Names.{Strict}
-use Rattle.names.specs.Held.{AllStand}
+use Rattle.names.specs.Premises.{Strict, AllStand}
 use Rattle.merge.specs.Words.{withRuins, resultWords, modifies}
 use Rattle.merge.specs.declared.turn.Turn.{Turn}
 use Rattle.merge.specs.declared.weave.Woven.{Woven}

@@ -3,9 +3,11 @@ use Prim.Native.Nat.{ℕ, _+_, _*_, _/_, _%_}
 use mathlib.Core.Bool.{true, false}
 use mathlib.Core.List.{List, [], _∷_}
 use mathlib.Core.Path.{_≡_, refl}
-use Rattle.merge.specs.Update.{Change, holds, placed, without, changed, obeyed, result, targetGood, unnamed}
+use Rattle.merge.specs.Update.{Change, placed, without, changed, obeyed, result, unnamed}
+use Rattle.merge.specs.Targets.{holds, targetGood}
 use Rattle.merge.specs.Updated.{worked, updated}
-use Rattle.merge.specs.Words.{resultWords, modifies, marked, deletes, hasName}
+use Rattle.merge.specs.Words.{resultWords, modifies, deletes, hasName}
+use Rattle.items.specs.Word.{marked}
 use Rattle.merge.specs.Places.{joined, single, double}
 
 -- ---- an update record by record: 100 * name + value is held; a change is 10,000 * RUIN + 100 * name + value, and a modify adds its value

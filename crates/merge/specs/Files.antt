@@ -1,4 +1,4 @@
--- A cell and an update as they come to the weaving. Assumes nothing.
+-- A cell and an update as they come to the weaving. It serves the proofs, and nothing here need be believed. Assumes nothing.
 use Prim.Native.Nat.{ℕ, _+_, _-_, _*_, _≤_, _<_}
 use mathlib.Core.Bool.{Bool, true, false}
 use mathlib.Core.List.{List}
@@ -7,10 +7,12 @@ use lib.ListN.{length, getD}
 use Rattle.iso8211.specs.File.{recordAt}
 use Rattle.words.specs.Words.{wordsIn}
 use Rattle.words.specs.Order.{sorted}
-use Rattle.items.specs.Identity.{ruinAt, nameOf, placeOf}
-use Rattle.names.specs.Names.{firstItem, nameWords, twiceOf, Readable}
+use Rattle.items.specs.Identity.{ruinAt}
+use Rattle.items.specs.Word.{nameOf, wordOffset, marked}
+use Rattle.names.specs.NameWords.{nameWords}
+use Rattle.names.specs.Premises.{Readable}
+use Rattle.names.specs.Names.{firstItem, twiceOf}
 use Rattle.merge.specs.Update.{Change}
-use Rattle.merge.specs.Words.{marked}
 
 -- a cell a of n records and an update b of m, neither with a name twice; in the second half of the work area stand the words of the cell, then
 -- those of the update, each in held order
@@ -29,7 +31,7 @@ abbrev pub changeBy : {A : Type 0} → List ℕ → (A → ℕ) → (ℕ → A) 
 changeBy b key one edit = record {
   key = key;
   name = nameOf;
-  ruin = λ (w : ℕ). ruinAt b (placeOf w);
+  ruin = λ (w : ℕ). ruinAt b (wordOffset w);
   made = λ (w : ℕ). one (marked w);
   edit = edit;
 }
@@ -42,4 +44,4 @@ pub record RecordOf (update : Bool) (s : List ℕ) (n at : ℕ) : Type 0 where
   pub is : at ≡ recordAt s index
   pub word : ℕ
   pub there : word < length (sorted (nameWords update s n))
-  pub stands : at ≡ placeOf (getD (sorted (nameWords update s n)) word 0)
+  pub stands : at ≡ wordOffset (getD (sorted (nameWords update s n)) word 0)

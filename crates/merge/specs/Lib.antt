@@ -1,5 +1,6 @@
 -- The notions of `merge`, in the order in which a reader should meet them.
 pub mod Update
+pub mod Targets
 pub mod Updated
 pub mod Words
 pub mod Area

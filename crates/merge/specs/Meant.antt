@@ -2,9 +2,9 @@
 use Prim.Native.Nat.{ℕ, _<_}
 use mathlib.Core.List.{List, [], _∷_}
 use mathlib.Core.Path.{_≡_}
-use Rattle.items.specs.Identity.{nameOf, placeOf}
+use Rattle.items.specs.Word.{nameOf, wordOffset, marked, mark-weight}
 use Rattle.merge.specs.Updated.{Rules}
-use Rattle.merge.specs.Words.{deletes, marked}
+use Rattle.merge.specs.Words.{deletes}
 
 -- the update's records by words that are marked where they delete
 abbrev pub thingRules : {A : Type 0} → (A → ℕ) → (ℕ → A) → (ℕ → A → A) → Rules A ℕ
@@ -18,7 +18,7 @@ pub data AllKeyed {A : Type 0} (key : A → ℕ) (one : ℕ → A) : List ℕ �
 -- each of these words is of a record that begins below the mark
 pub data AllLow : List ℕ → Type 0 where
   low-none : AllLow []
-  low-more : {w : ℕ} {ws : List ℕ} → placeOf w < 8388608 → AllLow ws → AllLow (w ∷ ws)
+  low-more : {w : ℕ} {ws : List ℕ} → wordOffset w < mark-weight → AllLow ws → AllLow (w ∷ ws)
 
 -- the words cs of a cell and ws of an update stand for things of their names, and a modify keeps the name
 pub record Meant {A : Type 0} (key : A → ℕ) (one : ℕ → A) (edit : ℕ → A → A) (cs ws : List ℕ) : Type 0 where

@@ -1,4 +1,4 @@
--- The walk over the result in held order. Assumes nothing.
+-- The walk over the result in held order. It serves the proofs, and nothing here need be believed. Assumes nothing.
 use Prim.Native.Nat.{ℕ, _+_, _-_, _*_, _≤_}
 use mathlib.Core.Bool.{cond}
 use mathlib.Core.List.{List, [], _∷_}
@@ -6,7 +6,7 @@ use mathlib.Core.Path.{_≡_}
 use lib.Dec.{eqb}
 use lib.ListN.{length}
 use Rattle.words.specs.Words.{wordsIn}
-use Rattle.items.specs.Identity.{nameOf}
+use Rattle.items.specs.Word.{nameOf}
 use Rattle.merge.specs.Area.{wordsBack}
 use Rattle.merge.specs.declared.walk.At.{At}
 

@@ -1,6 +1,6 @@
 -- What an update makes of what a chart holds: record by record, in the update's order. Assumes nothing.
 use Prim.Native.Nat.{ℕ}
-use mathlib.Core.Bool.{Bool, true, false, cond, _||_}
+use mathlib.Core.Bool.{cond}
 use mathlib.Core.List.{List, [], _∷_}
 use lib.Dec.{ltb, eqb}
 
@@ -13,11 +13,6 @@ pub record Change (A U : Type 0) : Type 0 where
   pub ruin : U → ℕ
   pub made : U → A
   pub edit : U → A → A
-
--- whether this name is held
-unfoldable pub holds : {A : Type 0} → (A → ℕ) → ℕ → List A → Bool
-holds key n [] = false
-holds key n (a ∷ l) = eqb (key a) n || holds key n l
 
 -- "1 insert": in front of the first that has no lower name
 unfoldable pub placed : {A : Type 0} → (A → ℕ) → A → List A → List A
@@ -44,10 +39,6 @@ obeyed by u l =
 unfoldable pub result : {A U : Type 0} → Change A U → List A → List U → List A
 result by held [] = held
 result by held (u ∷ us) = result by (obeyed by u held) us
-
--- "13 Target: insert of a held name or modify/delete of none"
-unfoldable pub targetGood : {A U : Type 0} → Change A U → List A → U → Bool
-targetGood by held u = cond (eqb (by .ruin u) 1) (cond (holds (by .key) (by .name u) held) false true) (holds (by .key) (by .name u) held)
 
 -- what no record of the update names, in its order
 unfoldable pub unnamed : {A U : Type 0} → Change A U → List U → List A → List A

@@ -5,7 +5,8 @@ use mathlib.Core.Bool.{Bool, true, cond}
 use mathlib.Core.List.{List, [], _∷_}
 use mathlib.Core.Path.{_≡_}
 use lib.Dec.{ltb, eqb}
-use Rattle.merge.specs.Update.{Change, targetGood}
+use Rattle.merge.specs.Update.{Change}
+use Rattle.merge.specs.Targets.{targetGood}
 
 -- of a change the walk asks only whether it deletes: it inserts where its name isn't held
 pub record Rules (A U : Type 0) : Type 0 where

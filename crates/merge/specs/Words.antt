@@ -1,26 +1,15 @@
--- The result over the words of records: a name and the place of its record. Assumes nothing.
-use Prim.Native.Nat.{ℕ, _+_, _*_, _/_, _%_}
+-- The result over the words of records: a name and the place of its record. It serves the proofs, and nothing here need be believed. Assumes nothing.
+use Prim.Native.Nat.{ℕ}
 use mathlib.Core.Bool.{Bool, false, cond, not, _&&_, _||_}
 use mathlib.Core.List.{List, [], _∷_}
 use lib.Dec.{eqb}
-use Rattle.items.specs.Identity.{ruinAt, nameOf, placeOf}
+use Rattle.items.specs.Identity.{ruinAt}
+use Rattle.items.specs.Word.{nameOf, wordOffset, markOf, marked}
 use Rattle.merge.specs.Updated.{Rules, updated}
-
--- bit 23 of a word, above every place in a file: among the words of an update it marks a delete, in the result a record of the update
-abbrev pub markOf : ℕ → ℕ
-markOf w = w / 8388608 % 2
-
--- the place of its record, whether a word is marked or not
-abbrev pub offsetOf : ℕ → ℕ
-offsetOf w = w % 8388608
-
--- the word with the mark set
-unfoldable pub marked : ℕ → ℕ
-marked u = u / 16777216 * 16777216 + 8388608 + u % 8388608
 
 -- ---- the words of an update b: those of records that delete are marked
 unfoldable pub withRuin : List ℕ → ℕ → ℕ
-withRuin b w = cond (eqb (ruinAt b (placeOf w)) 2) (marked w) w
+withRuin b w = cond (eqb (ruinAt b (wordOffset w)) 2) (marked w) w
 
 unfoldable pub withRuins : List ℕ → List ℕ → List ℕ
 withRuins b [] = []

@@ -1,12 +1,11 @@
--- The work area before and behind the weaving, as the crates above take it. Assumes nothing.
+-- The work area before and behind the weaving, as the crates above take it. It serves the proofs, and nothing here need be believed. Assumes nothing.
 use Prim.Native.Nat.{ℕ, _+_, _*_, _≤_}
 use mathlib.Core.List.{List}
 use mathlib.Core.Path.{_≡_}
 use lib.ListN.{length}
 use Rattle.words.specs.Words.{wordsIn}
 use Rattle.words.specs.Order.{Sorted}
-use Rattle.names.specs.Names.{Strict}
-use Rattle.names.specs.Held.{AllStand}
+use Rattle.names.specs.Premises.{Strict, AllStand}
 use Rattle.merge.specs.Words.{withRuins, resultWords, modifies}
 use Rattle.merge.specs.Area.{wordsBack}
 use Rattle.merge.specs.Places.{joined, single, double, placesOf, Woof}

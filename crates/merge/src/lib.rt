@@ -14,6 +14,9 @@ pub mod weave;
 pub use walk::At;
 pub use weave::Woven;
 
+// Item i, where j modifies are behind.
+pub use walk::item_at;
+
 // The n words of the cell and the m of the update, which stand in the second half of the area, woven
 // into those of the result, in front; the words of its modifies stand at the end.
 pub fn woven(update: &[u8], n: usize, m: usize, work: &mut [u8]) -> Woven

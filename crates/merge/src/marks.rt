@@ -1,21 +1,22 @@
 // The words of the update, marked where their records delete.
 ghost use Prim.Native.Nat.{_+_};
 ghost use mathlib.Core.Path.{_≡_};
-ghost use Rattle.names.specs.Held.{Stands};
 ghost use Rattle.merge.specs.Words.{withRuin};
 ghost use Rattle.merge.specs.Area.{Standing, Marks};
 use crate::turn::mark;
 use iso8211::field::head_of;
 use items::identity::ruin_of;
+use items::word;
 use words::get;
 use words::put;
+ghost use Rattle.names.specs.Premises.{Stands};
 
 // The word of a record of the update, marked where it deletes.
 fn with_ruin(s: &[u8], w: u64) -> u64
     requires { ⌜ Stands (now s) w ⌝ }
     ensures { λ r. ⌜ r ≡ withRuin (now (s .entry)) w ⌝ }
 {
-    let at = (w % 16777216) as usize;
+    let at = (w % word::NAME_WEIGHT) as usize;
     if ruin_of(s, at, head_of(s, at)) == 2 {
         return mark(w);
     }

@@ -3,10 +3,12 @@ ghost use Prim.Native.Nat.{_+_, _*_, _≤_, _<_};
 ghost use mathlib.Core.Path.{_≡_};
 ghost use lib.ListN.{length};
 ghost use Rattle.words.specs.Words.{wordsIn};
-ghost use Rattle.names.specs.Names.{Strict};
-ghost use Rattle.merge.specs.Words.{deletes, marked};
+ghost use Rattle.merge.specs.Words.{deletes};
+ghost use Rattle.items.specs.Word.{marked};
 ghost use Rattle.merge.specs.Area.{keptTurn, insertedTurn, deletedTurn, modifiedTurn, Turned};
+use items::word;
 use words::get;
+ghost use Rattle.names.specs.Premises.{Strict};
 
 // What a turn takes and gives: x words of the cell and y of the update are used up; `keep` words of
 // the result come of them, 0 or 1, which is `word`, and `change` of its modifies, which is `by`.
@@ -23,14 +25,14 @@ pub struct Turn {
 pub fn is_delete(u: u64) -> bool
     ensures { λ r. ⌜ r ≡ deletes u ⌝ }
 {
-    u / 8388608 % 2 == 1
+    u / word::MARK_WEIGHT % 2 == 1
 }
 
 // The word of an inserted record, marked as one of the update.
 pub fn mark(u: u64) -> u64
     ensures { λ r. ⌜ r ≡ marked u ⌝ }
 {
-    u / 16777216 * 16777216 + 8388608 + u % 8388608
+    u / word::NAME_WEIGHT * word::NAME_WEIGHT + word::MARK_WEIGHT + u % word::MARK_WEIGHT
 }
 
 // The four turns. The word of the cell is kept.
@@ -104,8 +106,8 @@ pub fn taken(work: &[u8], p: usize, i: usize, q: usize, j: usize) -> Turn
         return kept(c);
     }
     let u = get(work, q);
-    let held = c / 16777216;
-    let named = u / 16777216;
+    let held = c / word::NAME_WEIGHT;
+    let named = u / word::NAME_WEIGHT;
     if held < named {
         return kept(c);
     }

@@ -1,6 +1,7 @@
 // The walk over the items of the result in held order.
 ghost use Prim.Native.Nat.{_-_, _≤_, _<_};
 ghost use Rattle.merge.specs.Places.{Woof, Headed};
+use items::word;
 use words::get;
 
 // An item of the result: its word, and where `change` is 1 the word of the record of the update that
@@ -25,7 +26,7 @@ pub fn item_at(work: &[u8], end: usize, count: usize, edits: usize, i: usize, j:
         };
     }
     let by = get(work, end - j - 1);
-    if word / 16777216 == by / 16777216 {
+    if word / word::NAME_WEIGHT == by / word::NAME_WEIGHT {
         return At {
             word,
             change: 1,

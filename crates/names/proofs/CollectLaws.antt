@@ -1,5 +1,5 @@
 -- Laws of the words' walk as `collect` and `order` take it: the words so far are the walk so far. Assumes nothing.
-use Prim.Native.Nat.{ℕ, zero, _+_, _-_, _*_, _^_, _≤_, _<_}
+use Prim.Native.Nat.{ℕ, _+_, _-_, _*_, _^_, _≤_, _<_}
 use mathlib.Core.Bool.{Bool}
 use mathlib.Core.List.{List, [], _∷_, _++_}
 use mathlib.Core.Path.{_≡_, refl, sym, ap, _∙_}
@@ -8,15 +8,17 @@ use native.Mathlib.Omega.{arith}
 use lib.ListN.{length, drop}
 use lib.Seq.{drop-drop}
 use Rattle.iso8211.specs.Record.{endOf}
-use Rattle.iso8211.specs.Field.{FramedAt}
+use Rattle.iso8211.specs.Premises.{FramedAt}
 use Rattle.iso8211.specs.File.{recordAt}
 use Rattle.iso8211.proofs.Promise.{framed-at, at-on}
 use Rattle.words.specs.Words.{wordsIn, putAt}
 use Rattle.words.specs.Order.{sorted, Sorts}
 use Rattle.words.proofs.WordsLaws.{put-length, put-back, words-grow}
-use Rattle.items.specs.Lists.{LaidOut}
-use Rattle.items.specs.Identity.{wordFor, Identified}
-use Rattle.names.specs.Names.{firstItem, wordsFrom, nameWords, Readable}
+use Rattle.items.specs.Premises.{LaidOut, Identified}
+use Rattle.items.specs.Identity.{wordFor}
+use Rattle.names.specs.NameWords.{wordsFrom, nameWords}
+use Rattle.names.specs.Premises.{Readable}
+use Rattle.names.specs.Names.{firstItem}
 use Rattle.names.specs.Area.{Collected}
 use Rattle.names.proofs.NamesLaws.{from-grow}
 
@@ -45,7 +47,8 @@ holds-sorted {a} {these} {b} {c} {m} h so = record {
 }
 
 -- ---- the record at which the walk stands
-module _ (update : Bool) (s : List ℕ) (n first i at : ℕ) (known : Readable update s n) (is : first ≡ firstItem update) (more : i < n - first) (so : at ≡ recordAt s (first + i)) where
+module _ (update : Bool) (s : List ℕ) (n first i at : ℕ) (known : Readable update s n) (is : first ≡ firstItem update) (more : i < n - first)
+    (so : at ≡ recordAt s (first + i)) where
   pub turn-framed : FramedAt s at
   turn-framed = framed-at s n (first + i) at (known .framed) (omega arith) so
 

@@ -1,15 +1,13 @@
--- Laws of `names`: what the crates above may use is in NamesLaws, NeighboursLaws, ReadableLaws, NamedLaws, LookupLaws, HeldLaws and OnceLaws; the
+-- Laws of `names`: what the crates above may use is in NamesLaws, ItemsLaws, NeighboursLaws, ReadableLaws, NamedLaws, LookupLaws, HeldLaws and OnceLaws; the
 -- others are for the proofs of this crate.
 pub mod WalkLaws
 pub mod NamesLaws
 pub mod CollectLaws
+pub mod ItemsLaws
 pub mod RepeatLaws
 pub mod NeighboursLaws
 pub mod TwiceLaws
 pub mod ReadableLaws
-pub mod CountsLaws
-pub mod ComfLaws
-pub mod LookupLaws
 pub mod NamedLaws
 pub mod HeldLaws
 pub mod OnceLaws

@@ -6,18 +6,22 @@ use mathlib.Core.List.{List}
 use mathlib.Core.Logic.{_⊎_, ⊎-elim}
 use mathlib.Core.Path.{_≡_, refl, sym, ap, _∙_}
 use native.Mathlib.Omega.{arith}
-use lib.ListN.{length, getD}
+use lib.ListN.{getD}
 use Rattle.iso8211.specs.File.{recordAt}
 use Rattle.words.specs.Order.{sorted, isIn}
 use Rattle.words.proofs.OrderLaws.{sorted-member, member-at, member-place}
-use Rattle.items.specs.Identity.{nameAt, wordFor, nameOf, placeOf}
-use Rattle.items.proofs.IdentityLaws.{word-name, word-place}
-use Rattle.names.specs.Names.{firstItem, nameWords, Readable}
-use Rattle.names.specs.Lookup.{lookup, foundCode}
-use Rattle.names.specs.declared.lookup.Found.the-variants.{At, Nothing}
+use Rattle.items.specs.Identity.{nameAt, wordFor}
+use Rattle.items.specs.Word.{nameOf, wordOffset}
+use Rattle.items.proofs.IdentityLaws.{word-name, word-offset}
+use Rattle.names.specs.NameWords.{nameWords}
+use Rattle.lookups.specs.LookupWords.{lookup}
+use Rattle.names.specs.Premises.{Readable}
+use Rattle.names.specs.Names.{firstItem}
+use Rattle.lookups.specs.Lookup.{foundCode}
+use Rattle.lookups.specs.declared.lookup.Found.the-variants.{At, Nothing}
 use Rattle.names.proofs.NamesLaws.{from-length, from-at}
 use Rattle.names.proofs.ReadableLaws.{place-small}
-use Rattle.names.proofs.LookupLaws.{lookup-told, lookup-lost, found-cases, code-nothing, code-at}
+use Rattle.lookups.proofs.LookupLaws.{lookup-told, lookup-lost, found-cases, code-nothing, code-at}
 
 -- a word of the file is a record's
 module _ (update : Bool) (s : List ℕ) (n : ℕ) where
@@ -46,7 +50,7 @@ module _ {update : Bool} {s : List ℕ} {n : ℕ} (readable : Readable update s 
       let t = lookup-told ws name p e in
       let r = word-record update s n (getD ws (t .0) 0) (member-at ws (t .0) (t .1)) in
       let small = place-small readable (r .0) (r .2) in
-      let place : recordAt s (r .0) ≡ p = sym (word-place s (recordAt s (r .0)) small) ∙ ap (λ (w : ℕ). placeOf w) (r .3) ∙ t .3 in
+      let place : recordAt s (r .0) ≡ p = sym (word-offset s (recordAt s (r .0)) small) ∙ ap (λ (w : ℕ). wordOffset w) (r .3) ∙ t .3 in
       let named : nameAt s (recordAt s (r .0)) ≡ name = sym (word-name s (recordAt s (r .0)) small) ∙ ap (λ (w : ℕ). nameOf w) (r .3) ∙ t .2 in
       (r .0, r .1, r .2, place, rw place at named)
 

@@ -10,9 +10,12 @@ use Rattle.octets.specs.Number.{byteAt, numAt}
 use Rattle.iso8211.specs.Record.{endOf}
 use Rattle.iso8211.specs.File.{recordAt}
 use Rattle.iso8211.proofs.Promise.{at-next}
-use Rattle.items.specs.Identity.{idAt, rcidAt, nameAt, wordFor, nameOf, placeOf}
-use Rattle.items.proofs.IdentityLaws.{word-name, word-place, word-small}
-use Rattle.names.specs.Names.{firstItem, wordsFrom, nameWords, Readable, Ascending}
+use Rattle.items.specs.Identity.{idAt, rcidAt, nameAt, wordFor}
+use Rattle.items.specs.Word.{nameOf, wordOffset}
+use Rattle.items.proofs.IdentityLaws.{word-name, word-offset, word-small}
+use Rattle.names.specs.NameWords.{wordsFrom, nameWords}
+use Rattle.names.specs.Premises.{Readable, Ascending}
+use Rattle.names.specs.Names.{firstItem}
 use Rattle.names.proofs.WalkLaws.{at-order, at-inside}
 
 -- ---- the walk
@@ -57,8 +60,8 @@ module _ (update : Bool) (s : List ℕ) (n : ℕ) (known : Readable update s n) 
   pub names-name : (k : ℕ) → k < n - firstItem update → nameOf (getD (nameWords update s n) k 0) ≡ nameAt s (recordAt s (firstItem update + k))
   names-name k h = rw (names-at update s n k h) (word-name s (recordAt s (firstItem update + k)) (place-low k h))
 
-  pub names-place : (k : ℕ) → k < n - firstItem update → placeOf (getD (nameWords update s n) k 0) ≡ recordAt s (firstItem update + k)
-  names-place k h = rw (names-at update s n k h) (word-place s (recordAt s (firstItem update + k)) (place-low k h))
+  pub names-place : (k : ℕ) → k < n - firstItem update → wordOffset (getD (nameWords update s n) k 0) ≡ recordAt s (firstItem update + k)
+  names-place k h = rw (names-at update s n k h) (word-offset s (recordAt s (firstItem update + k)) (place-low k h))
 
   -- each is a word of 64 bits, the file being one of bytes
   pub names-small : ((i : ℕ) → byteAt s i < 256) → (k : ℕ) → k < n - firstItem update → getD (nameWords update s n) k 0 < 18446744073709551616

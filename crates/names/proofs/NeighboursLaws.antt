@@ -8,26 +8,26 @@ use mathlib.Core.Path.{_≡_, refl, sym, _∙_}
 use native.Mathlib.Nat.{le-refl}
 use native.Mathlib.Omega.{arith}
 use lib.ListN.{length, getD}
-use lib.Dec.{eqb, leb}
 use borrow.Author.Tests.{le-leb, lt-leb, eq-eqb, ne-eqb}
 use Rattle.octets.proofs.Cases.{le-or-lt, eq-or-ne}
 use Rattle.words.specs.Order.{insert, sorted}
 use Rattle.words.proofs.OrderLaws.{insert-here, insert-later, sorted-member, sorted-in-order, member-at, member-place}
-use Rattle.items.specs.Identity.{nameOf, placeOf}
-use Rattle.names.specs.Names.{twiceFrom, Ascending}
+use Rattle.items.specs.Word.{nameOf, wordOffset}
+use Rattle.names.specs.NameWords.{wordTwice}
+use Rattle.names.specs.Premises.{Ascending}
 use Rattle.names.specs.Neighbours.{lower, leastFrom, leastRepeat}
 use Rattle.names.specs.declared.twice.Repeat.{Repeat}
 use Rattle.names.proofs.RepeatLaws.{repeats, pair-repeats, repeat-pair, twice-no, twice-first}
 
 -- ---- one step
 lower-same : (least left right : ℕ) → nameOf left ≡ nameOf right
-    → (lower least left right ≤ least) × (lower least left right ≤ placeOf right) × ((lower least left right ≡ least) ⊎ (lower least left right ≡ placeOf right))
+    → (lower least left right ≤ least) × (lower least left right ≤ wordOffset right) × ((lower least left right ≡ least) ⊎ (lower least left right ≡ wordOffset right))
 unfolding lower
 lower-same least left right e =
     rw (eq-eqb (nameOf left) (nameOf right) e)
-    (⊎-elim (λ (h : least ≤ placeOf right). rw (le-leb least (placeOf right) h) (le-refl least, h, inl refl))
-    (λ (h : placeOf right < least). rw (lt-leb least (placeOf right) h) (omega arith, le-refl (placeOf right), inr refl))
-    (le-or-lt least (placeOf right)))
+    (⊎-elim (λ (h : least ≤ wordOffset right). rw (le-leb least (wordOffset right) h) (le-refl least, h, inl refl))
+    (λ (h : wordOffset right < least). rw (lt-leb least (wordOffset right) h) (omega arith, le-refl (wordOffset right), inr refl))
+    (le-or-lt least (wordOffset right)))
 
 lower-other : (least left right : ℕ) → (nameOf left ≡ nameOf right → ⊥) → lower least left right ≡ least
 unfolding lower
@@ -39,12 +39,12 @@ record Met (left : ℕ) (l : List ℕ) (p : ℕ) : Type 0 where
   pub k : ℕ
   pub below : k < length l
   pub same : nameOf (getD (left ∷ l) k 0) ≡ nameOf (getD l k 0)
-  pub place : p ≡ placeOf (getD l k 0)
+  pub place : p ≡ wordOffset (getD l k 0)
 
 -- p is the least of these places and of `least`
 record Least (least left : ℕ) (l : List ℕ) (p : ℕ) : Type 0 where
   pub most : p ≤ least
-  pub low : (k : ℕ) → k < length l → nameOf (getD (left ∷ l) k 0) ≡ nameOf (getD l k 0) → p ≤ placeOf (getD l k 0)
+  pub low : (k : ℕ) → k < length l → nameOf (getD (left ∷ l) k 0) ≡ nameOf (getD l k 0) → p ≤ wordOffset (getD l k 0)
   pub met : (p ≡ least) ⊎ Met left l p
 
 module _ (least left w : ℕ) (ws : List ℕ) (p : ℕ) (rest : Least (lower least left w) w ws p) where
@@ -54,7 +54,7 @@ module _ (least left w : ℕ) (ws : List ℕ) (p : ℕ) (rest : Least (lower lea
       ⊎-elim (λ (e : nameOf left ≡ nameOf w). omega (arith, lower-same least left w e .0))
       (λ (ne : nameOf left ≡ nameOf w → ⊥). omega (arith, lower-other least left w ne)) (eq-or-ne (nameOf left) (nameOf w))
 
-  step-low : (k : ℕ) → k < length (w ∷ ws) → nameOf (getD (left ∷ (w ∷ ws)) k 0) ≡ nameOf (getD (w ∷ ws) k 0) → p ≤ placeOf (getD (w ∷ ws) k 0)
+  step-low : (k : ℕ) → k < length (w ∷ ws) → nameOf (getD (left ∷ (w ∷ ws)) k 0) ≡ nameOf (getD (w ∷ ws) k 0) → p ≤ wordOffset (getD (w ∷ ws) k 0)
   step-low zero b e = let most = rest .most in omega (arith, lower-same least left w e .1)
   step-low (suc k) b e = rest .low k (omega arith) e
 
@@ -63,7 +63,7 @@ module _ (least left w : ℕ) (ws : List ℕ) (p : ℕ) (rest : Least (lower lea
       ⊎-elim (λ (is : p ≡ lower least left w).
       ⊎-elim (λ (e : nameOf left ≡ nameOf w).
       ⊎-elim (λ (l : lower least left w ≡ least). inl (is ∙ l))
-      (λ (r : lower least left w ≡ placeOf w). inr (record { k = 0; below = omega arith; same = e; place = is ∙ r })) (lower-same least left w e .2))
+      (λ (r : lower least left w ≡ wordOffset w). inr (record { k = 0; below = omega arith; same = e; place = is ∙ r })) (lower-same least left w e .2))
       (λ (ne : nameOf left ≡ nameOf w → ⊥). inl (is ∙ lower-other least left w ne)) (eq-or-ne (nameOf left) (nameOf w)))
       (λ (m : Met w ws p). let b = m .below in inr (record { k = suc (m .k); below = omega arith; same = m .same; place = m .place }))
       (rest .met)
@@ -81,9 +81,9 @@ pub record Neighbours (l : List ℕ) (p : ℕ) : Type 0 where
   pub k : ℕ
   pub below : suc k < length l
   pub same : nameOf (getD l k 0) ≡ nameOf (getD l (suc k) 0)
-  pub place : p ≡ placeOf (getD l (suc k) 0)
+  pub place : p ≡ wordOffset (getD l (suc k) 0)
 
-pub least-low : (l : List ℕ) (k : ℕ) → suc k < length l → nameOf (getD l k 0) ≡ nameOf (getD l (suc k) 0) → leastRepeat l ≤ placeOf (getD l (suc k) 0)
+pub least-low : (l : List ℕ) (k : ℕ) → suc k < length l → nameOf (getD l k 0) ≡ nameOf (getD l (suc k) 0) → leastRepeat l ≤ wordOffset (getD l (suc k) 0)
 unfolding leastRepeat
 least-low [] k b e = absurd (omega arith)
 least-low (w ∷ ws) k b e = least-of 16777216 w ws .low k (omega arith) e
@@ -146,10 +146,11 @@ distinct-at (x ∷ []) d k b = absurd (omega arith)
 distinct-at (x ∷ (y ∷ l)) d zero b = d .0 .0
 distinct-at (x ∷ (y ∷ l)) d (suc k) b = distinct-at (y ∷ l) (d .1) k (omega arith)
 
-apart-all : (x : ℕ) (l : List ℕ) → ((q : ℕ) → q < length l → placeOf x < placeOf (getD l q 0)) → Apart x l
+apart-all : (x : ℕ) (l : List ℕ) → ((q : ℕ) → q < length l → wordOffset x < wordOffset (getD l q 0)) → Apart x l
 unfolding Apart
 apart-all x [] low = tt
-apart-all x (y ∷ l) low = (λ (e : x ≡ y). let less = low 0 (omega arith) in let same : placeOf x ≡ placeOf y = rw e in omega arith, apart-all x l (λ q b. low (suc q) (omega arith)))
+apart-all x (y ∷ l) low =
+    (λ (e : x ≡ y). let less = low 0 (omega arith) in let same : wordOffset x ≡ wordOffset y = rw e in omega arith, apart-all x l (λ q b. low (suc q) (omega arith)))
 
 ascending-tail : {w : ℕ} {ws : List ℕ} → Ascending (w ∷ ws) → Ascending ws
 ascending-tail a = record { up = λ p q less b. a .up (suc p) (suc q) (omega arith) (omega arith) }
@@ -179,7 +180,7 @@ of-sorted ws k h =
 
 module _ (ws : List ℕ) (a : Ascending ws) where
   -- a repeat's left neighbour has its name
-  pub repeat-low : (j : ℕ) → repeats [] ws j ≡ true → leastRepeat (sorted ws) ≤ placeOf (getD ws j 0)
+  pub repeat-low : (j : ℕ) → repeats [] ws j ≡ true → leastRepeat (sorted ws) ≤ wordOffset (getD ws j 0)
   repeat-low j is =
       let pair = repeat-pair ws j is in
       let b = pair .1 in
@@ -203,12 +204,12 @@ module _ (ws : List ℕ) (a : Ascending ws) where
       let high = so .order k (y .k) (omega arith) yb in
       let name : nameOf (getD l k 0) ≡ nameOf (getD l (suc k) 0) = rw e (omega arith) in
       let r = least-low l k (omega arith) name in
-      let last : placeOf (getD l (suc k) 0) ≡ placeOf (getD ws j 0) = rw (e, yi) in
+      let last : wordOffset (getD l (suc k) 0) ≡ wordOffset (getD ws j 0) = rw (e, yi) in
       omega arith)
       (le-or-lt (y .k) (x .k))
 
   -- and of two neighbours of one name the right one is a repeat
-  pub neighbour-repeat : (p : ℕ) → Neighbours (sorted ws) p → (j : ℕ) × (j < length ws) × (repeats [] ws j ≡ true) × (p ≡ placeOf (getD ws j 0))
+  pub neighbour-repeat : (p : ℕ) → Neighbours (sorted ws) p → (j : ℕ) × (j < length ws) × (repeats [] ws j ≡ true) × (p ≡ wordOffset (getD ws j 0))
   neighbour-repeat p m =
       let l = sorted ws in
       let k = m .k in
@@ -221,28 +222,29 @@ module _ (ws : List ℕ) (a : Ascending ws) where
       let xb = x .below in
       let le = sorted-in-order ws .order k (suc k) (omega arith) b in
       let ne = distinct-at l (distinct-sorted ws (distinct-all ws a)) k b in
-      let lt : getD l k 0 < getD l (suc k) 0 = ⊎-elim (λ (e : getD l k 0 ≡ getD l (suc k) 0). absurd (ne e)) (λ (o : getD l k 0 ≡ getD l (suc k) 0 → ⊥). omega arith) (eq-or-ne (getD l k 0) (getD l (suc k) 0)) in
+      let lt : getD l k 0 < getD l (suc k) 0 = ⊎-elim (λ (e : getD l k 0 ≡ getD l (suc k) 0). absurd (ne e)) (λ (o : getD l k 0 ≡ getD l (suc k) 0 → ⊥). omega arith)
+      (eq-or-ne (getD l k 0) (getD l (suc k) 0)) in
       let less : x .k < y .k = ⊎-elim (λ (h : y .k ≤ x .k). absurd (behind (x .k) (y .k) h xb (omega arith))) (λ (h : x .k < y .k). h) (le-or-lt (y .k) (x .k)) in
       (y .k, y .below, pair-repeats [] ws (x .k) (y .k) less (y .below) (omega arith), m .place ∙ rw yi)
     where
-      behind : (i j : ℕ) → j ≤ i → i < length ws → placeOf (getD ws i 0) < placeOf (getD ws j 0) → ⊥
+      behind : (i j : ℕ) → j ≤ i → i < length ws → wordOffset (getD ws i 0) < wordOffset (getD ws j 0) → ⊥
       behind i j h b less =
           ⊎-elim (λ (e : j ≡ i). let z : getD ws j 0 ≡ getD ws i 0 = rw e in omega arith)
           (λ (o : j ≡ i → ⊥). let up = a .up j i (omega arith) b in omega arith) (eq-or-ne j i)
 
 -- ---- the first repeat in the file's order has the least place
--- p is the place of word j, and that is what `twiceFrom` answers
+-- p is the place of word j, and that is what `wordTwice` answers
 pub record First (start : ℕ) (ws : List ℕ) (p : ℕ) : Type 0 where
   pub j : ℕ
   pub below : j < length ws
-  pub place : p ≡ placeOf (getD ws j 0)
-  pub is : twiceFrom start [] ws ≡ record { index = start + j; offset = p }
+  pub place : p ≡ wordOffset (getD ws j 0)
+  pub is : wordTwice start [] ws ≡ record { index = start + j; offset = p }
 
 placed : (k p q : ℕ) → p ≡ q → _≡_ {A = Repeat} (record { index = k; offset = p }) (record { index = k; offset = q })
 placed k p q e = rw e
 
 pub twice-least : (start : ℕ) (ws : List ℕ) → Ascending ws
-    → ((leastRepeat (sorted ws) ≡ 16777216) × (twiceFrom start [] ws ≡ record { index = 0; offset = 0 })) ⊎ First start ws (leastRepeat (sorted ws))
+    → ((leastRepeat (sorted ws) ≡ 16777216) × (wordTwice start [] ws ≡ record { index = 0; offset = 0 })) ⊎ First start ws (leastRepeat (sorted ws))
 twice-least start ws a =
     let p = leastRepeat (sorted ws) in
     ⊎-elim (λ (e : p ≡ 16777216). inl (e, twice-no start [] ws (λ (j : ℕ) (is : repeats [] ws j ≡ true). let low = repeat-low ws a j is in omega arith)))
@@ -260,6 +262,6 @@ twice-least start ws a =
           let low = repeat-low ws a i is in
           let up = a .up i j less (r .1) in
           omega arith)
-          ∙ sym (placed (start + j) p (placeOf (getD ws j 0)) place);
+          ∙ sym (placed (start + j) p (wordOffset (getD ws j 0)) place);
     }))
     (least-met (sorted ws))

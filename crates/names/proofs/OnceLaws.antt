@@ -11,13 +11,15 @@ use Rattle.octets.proofs.Cases.{le-or-lt}
 use Rattle.words.specs.Order.{sorted, Sorted, isIn}
 use Rattle.words.proofs.OrderLaws.{sorted-in-order, sorted-member, member-at}
 use Rattle.iso8211.specs.File.{recordAt}
-use Rattle.items.specs.Identity.{nameOf, placeOf}
-use Rattle.items.proofs.IdentityLaws.{word-place}
-use Rattle.names.specs.Names.{firstItem, nameWords, twiceFrom, twiceOf, Readable, Strict}
+use Rattle.items.specs.Word.{nameOf, wordOffset}
+use Rattle.items.proofs.IdentityLaws.{word-offset}
+use Rattle.names.specs.NameWords.{nameWords, wordTwice}
+use Rattle.names.specs.Premises.{Readable, Strict, Stands, AllStand}
+use Rattle.names.specs.Names.{firstItem, twiceOf}
 use Rattle.names.specs.Neighbours.{leastRepeat}
-use Rattle.names.specs.Held.{Stands, AllStand}
 use Rattle.names.specs.declared.twice.Repeat.{Repeat}
 use Rattle.names.proofs.WalkLaws.{at-inside}
+use Rattle.names.proofs.ItemsLaws.{twice-words}
 use Rattle.names.proofs.NamesLaws.{ascending}
 use Rattle.names.proofs.NeighboursLaws.{First, least-none, twice-least}
 use Rattle.names.proofs.NamedLaws.{word-record}
@@ -49,12 +51,11 @@ first-some false = omega arith
 
 module _ (update : Bool) {s : List ℕ} {n : ℕ} (readable : Readable update s n) where
   once-least : twiceOf update s n ≡ record { index = 0; offset = 0 } → leastRepeat (sorted (nameWords update s n)) ≡ 16777216
-  unfolding twiceOf
   once-least e =
       let ws = nameWords update s n in
-      ⊎-elim (λ (alone : (leastRepeat (sorted ws) ≡ 16777216) × (twiceFrom (firstItem update) [] ws ≡ record { index = 0; offset = 0 })). alone .0)
+      ⊎-elim (λ (alone : (leastRepeat (sorted ws) ≡ 16777216) × (wordTwice (firstItem update) [] ws ≡ record { index = 0; offset = 0 })). alone .0)
       (λ (f : First (firstItem update) ws (leastRepeat (sorted ws))).
-      let z : firstItem update + f .j ≡ 0 = ap (λ (r : Repeat). r .index) (sym (f .is) ∙ e) in
+      let z : firstItem update + f .j ≡ 0 = ap (λ (r : Repeat). r .index) (sym (f .is) ∙ sym (twice-words s n (readable .framed) (readable .short) update (readable .head)) ∙ e) in
       let some = first-some update in
       absurd (omega arith))
       (twice-least (firstItem update) ws (ascending update s n readable))
@@ -64,13 +65,13 @@ module _ (update : Bool) {s : List ℕ} {n : ℕ} (readable : Readable update s 
   once-rising e = once-strict (sorted (nameWords update s n)) (sorted-in-order (nameWords update s n)) (once-least e)
 
   -- ---- a word of the file stands for a record, which begins in the file
-  pub word-stands : (w : ℕ) → isIn w (sorted (nameWords update s n)) ≡ true → Stands s w × (placeOf w < 5242880)
+  pub word-stands : (w : ℕ) → isIn w (sorted (nameWords update s n)) ≡ true → Stands s w × (wordOffset w < 5242880)
   word-stands w there =
       let r = word-record update s n w there in
       let k = r .0 in
       let inside = at-inside s n k (recordAt s k) (readable .framed) (r .2) refl in
       let short = readable .short in
-      let place : placeOf w ≡ recordAt s k = ap (λ (v : ℕ). placeOf v) (sym (r .3)) ∙ word-place s (recordAt s k) (omega arith) in
+      let place : wordOffset w ≡ recordAt s k = ap (λ (v : ℕ). wordOffset v) (sym (r .3)) ∙ word-offset s (recordAt s k) (omega arith) in
       let known = readable .items k (r .1) (r .2) in
       (record { is = rw place (sym (r .3)); laid = rw place (known .0); known = rw place (known .1) }, omega arith)
 

@@ -4,19 +4,20 @@ use mathlib.Core.Bool.{Bool, true, false}
 use mathlib.Core.List.{List}
 use mathlib.Core.Path.{_≡_, refl, sym, ap, _∙_}
 use native.Mathlib.Omega.{arith}
-use Rattle.iso8211.specs.Field.{FramedAt}
+use Rattle.headvalues.specs.Dspm.{mostComf}
+use Rattle.iso8211.specs.Premises.{FramedAt}
 use Rattle.iso8211.specs.File.{frameOf, recordAt}
 use Rattle.iso8211.specs.declared.file.Framed.the-variants.{Records}
 use Rattle.iso8211.proofs.Promise.{framed-at, records-few, record-in, fields-in}
 use Rattle.table.specs.Table.{DSSI, DSPM}
 use Rattle.layout.specs.Layout.{filled}
-use Rattle.layout.specs.Record.{contentAt, Laid}
+use Rattle.layout.specs.Record.{contentAt}
+use Rattle.layout.specs.Premises.{Laid, DssiThere, DspmThere}
 use Rattle.layout.proofs.Promise.{laid-dsid, laid-dspm, full-dssi, full-dspm, content-length}
-use Rattle.items.specs.Lists.{LaidOut}
-use Rattle.items.specs.Identity.{Identified}
-use Rattle.names.specs.Names.{firstItem, Readable}
-use Rattle.names.specs.Counts.{DssiThere}
-use Rattle.names.specs.Comf.{comfAt, DspmThere}
+use Rattle.items.specs.Premises.{LaidOut, Identified}
+use Rattle.names.specs.Premises.{Readable}
+use Rattle.names.specs.Names.{firstItem}
+use Rattle.layout.specs.General.{comfAt}
 
 module _ {update : Bool} {s : List ℕ} {n : ℕ} (readable : Readable update s n) where
   pub readable-few : n ≤ 5242880
@@ -60,7 +61,7 @@ dssi-there {marks} {s} n v h laid =
     }
 
 -- "then 0001 DSPM": it is there once record 2 is laid out; that COMF is not above its most is Value's
-pub dspm-there : {marks s : List ℕ} (n : ℕ) → frameOf s ≡ Records n → 2 < n → Laid false 1 marks s (recordAt s 2) → comfAt s ≤ 10000000 → DspmThere s
+pub dspm-there : {marks s : List ℕ} (n : ℕ) → frameOf s ≡ Records n → 2 < n → Laid false 1 marks s (recordAt s 2) → comfAt s ≤ mostComf → DspmThere s
 dspm-there {marks} {s} n v h laid few =
     let at = recordAt s 2 in
     let kinds = laid-dspm laid refl in

@@ -1,4 +1,4 @@
--- Laws of repeats among words whose places ascend: which words are repeats, and that `twiceFrom` answers the first of them. Assumes
+-- Laws of repeats among words whose places ascend: which words are repeats, and that `wordTwice` answers the first of them. Assumes
 -- nothing.
 use Prim.Native.Nat.{ℕ, zero, suc, _+_, _<_}
 use mathlib.Core.Bool.{Bool, true, false, _||_, or-true}
@@ -12,8 +12,8 @@ use lib.Dec.{eqb}
 use borrow.Author.Tests.{eq-eqb, eqb-true}
 use Rattle.octets.proofs.Cases.{true-or-false}
 use Rattle.words.specs.Order.{isIn}
-use Rattle.items.specs.Identity.{nameOf, placeOf}
-use Rattle.names.specs.Names.{twiceFrom}
+use Rattle.items.specs.Word.{nameOf, wordOffset}
+use Rattle.names.specs.NameWords.{wordTwice}
 
 -- word j has a name that was seen, or that a word before it has
 unfoldable pub repeats : List ℕ → List ℕ → ℕ → Bool
@@ -74,8 +74,8 @@ repeat-pair ws j is = (
 )
 
 -- ---- the first of them
-pub twice-no : (k : ℕ) (seen ws : List ℕ) → ((j : ℕ) → repeats seen ws j ≡ true → ⊥) → twiceFrom k seen ws ≡ record { index = 0; offset = 0 }
-unfolding twiceFrom repeats
+pub twice-no : (k : ℕ) (seen ws : List ℕ) → ((j : ℕ) → repeats seen ws j ≡ true → ⊥) → wordTwice k seen ws ≡ record { index = 0; offset = 0 }
+unfolding wordTwice repeats
 twice-no k seen [] never = refl
 twice-no k seen (w ∷ ws) never =
     ⊎-elim (λ (e : isIn (nameOf w) seen ≡ true). absurd (never 0 e))
@@ -83,8 +83,8 @@ twice-no k seen (w ∷ ws) never =
     (true-or-false (isIn (nameOf w) seen))
 
 pub twice-first : (k : ℕ) (seen ws : List ℕ) (j : ℕ) → repeats seen ws j ≡ true → ((i : ℕ) → i < j → repeats seen ws i ≡ true → ⊥)
-    → twiceFrom k seen ws ≡ record { index = k + j; offset = placeOf (getD ws j 0) }
-unfolding twiceFrom repeats
+    → wordTwice k seen ws ≡ record { index = k + j; offset = wordOffset (getD ws j 0) }
+unfolding wordTwice repeats
 twice-first k seen [] j is never = absurd (let z : _≡_ {A = ℕ} 0 1 = cc in omega arith)
 twice-first k seen (w ∷ ws) zero is never = rw (is, add-zero k)
 twice-first k seen (w ∷ ws) (suc j) is never =

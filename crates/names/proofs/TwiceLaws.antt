@@ -10,9 +10,12 @@ use lib.ListN.{length}
 use Rattle.iso8211.specs.File.{recordAt}
 use Rattle.words.specs.Words.{wordAt, wordsIn}
 use Rattle.words.specs.Order.{sorted}
-use Rattle.names.specs.Names.{firstItem, nameWords, twiceFrom, twiceOf, Readable}
+use Rattle.names.specs.NameWords.{nameWords, wordTwice}
+use Rattle.names.specs.Premises.{Readable}
+use Rattle.names.specs.Names.{firstItem, twiceOf}
 use Rattle.names.specs.Neighbours.{lower, leastFrom, leastRepeat}
 use Rattle.names.proofs.WalkLaws.{at-inside}
+use Rattle.names.proofs.ItemsLaws.{twice-words}
 use Rattle.names.proofs.NamesLaws.{names-length, names-place, ascending}
 use Rattle.names.proofs.NeighboursLaws.{First, twice-least}
 
@@ -55,7 +58,7 @@ module _ (update : Bool) (s area : List ℕ) (n first least : ℕ) (known : Read
   first-of some =
       let ws = nameWords update s n in
       let p = of-words in
-      ⊎-elim (λ (alone : (leastRepeat (sorted ws) ≡ 16777216) × (twiceFrom (firstItem update) [] ws ≡ record { index = 0; offset = 0 })). absurd (some (p ∙ alone .0)))
+      ⊎-elim (λ (alone : (leastRepeat (sorted ws) ≡ 16777216) × (wordTwice (firstItem update) [] ws ≡ record { index = 0; offset = 0 })). absurd (some (p ∙ alone .0)))
       (λ (f : First (firstItem update) ws (leastRepeat (sorted ws))). rw p f)
       (twice-least (firstItem update) ws (ascending update s n known))
 
@@ -71,12 +74,14 @@ module _ (update : Bool) (s area : List ℕ) (n first least : ℕ) (known : Read
       let low : f .j < n - firstItem update = rw (names-length update s n) at (f .below) in
       omega arith
 
+  words-tell : twiceOf update s n ≡ wordTwice (firstItem update) [] (nameWords update s n)
+  words-tell = twice-words s n (known .framed) (known .short) update (known .head)
+
   pub twice-none : least ≡ 16777216 → record { index = 0; offset = 0 } ≡ twiceOf update s n
-  unfolding twiceOf
   twice-none none =
       let ws = nameWords update s n in
       let p = of-words in
-      ⊎-elim (λ (alone : (leastRepeat (sorted ws) ≡ 16777216) × (twiceFrom (firstItem update) [] ws ≡ record { index = 0; offset = 0 })). sym (alone .1))
+      ⊎-elim (λ (alone : (leastRepeat (sorted ws) ≡ 16777216) × (wordTwice (firstItem update) [] ws ≡ record { index = 0; offset = 0 })). sym (words-tell ∙ alone .1))
       (λ (f : First (firstItem update) ws (leastRepeat (sorted ws))). let place = f .place in absurd (omega arith))
       (twice-least (firstItem update) ws (ascending update s n known))
 
@@ -85,8 +90,7 @@ module _ (update : Bool) (s area : List ℕ) (n first least : ℕ) (known : Read
 
   pub twice-is : (index : ℕ) → (least ≡ 16777216 → ⊥) → ((k : ℕ) → k < n → least ≡ recordAt s k → index ≡ k)
       → record { index = index; offset = least } ≡ twiceOf update s n
-  unfolding twiceOf
   twice-is index some at =
       let f = first-of some in
       let e = at (firstItem update + f .j) (index-low some) (place-of some) in
-      rw e (sym (f .is))
+      rw e (sym (words-tell ∙ f .is))

@@ -7,7 +7,7 @@ use native.Mathlib.Numerals.{add-one}
 use native.Mathlib.Omega.{arith}
 use lib.ListN.{length}
 use Rattle.octets.proofs.Cases.{eq-or-ne}
-use Rattle.iso8211.specs.Field.{FramedAt}
+use Rattle.iso8211.specs.Premises.{FramedAt}
 use Rattle.iso8211.specs.File.{frameOf, recordAt}
 use Rattle.iso8211.specs.declared.file.Framed.the-variants.{Records}
 use Rattle.iso8211.proofs.Promise.{framed-at, at-past, last-ends}

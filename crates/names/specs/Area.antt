@@ -1,4 +1,4 @@
--- Words at the front of a lent area. Assumes nothing.
+-- Words at the front of a lent area. It serves the proofs, and nothing here need be believed. Assumes nothing.
 use Prim.Native.Nat.{ℕ, _*_}
 use mathlib.Core.List.{List}
 use mathlib.Core.Path.{_≡_}

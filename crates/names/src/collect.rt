@@ -1,7 +1,9 @@
 // The name words of a file's vectors and features, in the file's order.
 ghost use Prim.Native.Nat.{_-_, _*_, _≤_};
 ghost use lib.ListN.{length};
-ghost use Rattle.names.specs.Names.{firstItem, nameWords, Readable};
+ghost use Rattle.names.specs.NameWords.{nameWords};
+ghost use Rattle.names.specs.Premises.{Readable};
+ghost use Rattle.names.specs.Names.{firstItem};
 ghost use Rattle.names.specs.Area.{Collected};
 use crate::walk::first_item;
 use crate::walk::start_of;

@@ -2,7 +2,9 @@
 ghost use Prim.Native.Nat.{_-_, _*_, _≤_};
 ghost use lib.ListN.{length};
 ghost use Rattle.words.specs.Order.{sorted};
-ghost use Rattle.names.specs.Names.{firstItem, nameWords, Readable};
+ghost use Rattle.names.specs.NameWords.{nameWords};
+ghost use Rattle.names.specs.Premises.{Readable};
+ghost use Rattle.names.specs.Names.{firstItem};
 ghost use Rattle.names.specs.Area.{Collected};
 use crate::collect::collect;
 use crate::walk::first_item;

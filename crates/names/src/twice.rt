@@ -4,11 +4,14 @@ ghost use mathlib.Core.Path.{_≡_};
 ghost use lib.ListN.{length};
 ghost use Rattle.words.specs.Words.{wordsIn};
 ghost use Rattle.words.specs.Order.{sorted};
-ghost use Rattle.names.specs.Names.{firstItem, nameWords, twiceOf, Readable};
+ghost use Rattle.names.specs.Names.{firstItem, twiceOf};
 ghost use Rattle.names.specs.Neighbours.{lower, leastRepeat};
 use crate::walk::first_item;
 use crate::walk::index_of;
+use items::word;
 use words::get;
+ghost use Rattle.names.specs.NameWords.{nameWords};
+ghost use Rattle.names.specs.Premises.{Readable};
 
 // A record whose name an earlier record has: which it is, and where it starts; record 0: there is
 // none.
@@ -21,13 +24,13 @@ pub struct Repeat {
 fn lower_of(least: u64, left: u64, right: u64) -> u64
     ensures { λ r. ⌜ r ≡ lower least left right ⌝ }
 {
-    if left / 16777216 != right / 16777216 {
+    if left / word::NAME_WEIGHT != right / word::NAME_WEIGHT {
         return least;
     }
-    if least <= right % 16777216 {
+    if least <= right % word::NAME_WEIGHT {
         return least;
     }
-    right % 16777216
+    right % word::NAME_WEIGHT
 }
 
 // The least place of a word, of the first m, whose left neighbour has its name; 16,777,216 where
@@ -37,9 +40,9 @@ fn least_repeat(area: &[u8], m: usize) -> u64
     ensures { λ r. ⌜ r ≡ leastRepeat (wordsIn (now (area .entry)) 0 m) ⌝ }
 {
     if m == 0 {
-        return 16777216;
+        return word::NAME_WEIGHT;
     }
-    let mut least: u64 = 16777216;
+    let mut least: u64 = word::NAME_WEIGHT;
     let mut left = get(area, 0);
     let mut i: usize = 1;
     while i < m {
@@ -60,7 +63,7 @@ pub fn twice(s: &[u8], n: usize, update: bool, area: &[u8]) -> Repeat
     ensures { λ r. ⌜ r ≡ twiceOf update (now (s .entry)) n ⌝ }
 {
     let least = least_repeat(area, n - first_item(update));
-    if least == 16777216 {
+    if least == word::NAME_WEIGHT {
         return Repeat {
             index: 0,
             offset: 0,

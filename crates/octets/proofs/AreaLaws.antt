@@ -1,6 +1,6 @@
 -- Laws of `Has`, `Wrote` and `Going`: what stands in a list, what a writer wrote, and a writer under way. With them no proof above
 -- sees an index of an appended list or a single store. Assumes nothing.
-use Prim.Native.Nat.{ℕ, zero, suc, _+_, _-_, _≤_, _<_}
+use Prim.Native.Nat.{ℕ, suc, _+_, _-_, _≤_, _<_}
 use mathlib.Core.List.{List, [], _∷_, _++_, append-assoc, append-nil}
 use mathlib.Core.Path.{_≡_, refl, sym, ap, _∙_}
 use native.Mathlib.Nat.{add-zero, add-suc, suc-add, add-assoc}

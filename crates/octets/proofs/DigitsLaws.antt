@@ -4,14 +4,15 @@ use mathlib.Core.Bool.{true, false}
 use mathlib.Core.List.{List, _∷_}
 use mathlib.Core.Path.{_≡_, refl, sym, ap, _∙_}
 use mathlib.Core.Logic.{⊎-elim}
-use native.Mathlib.Nat.{add-zero, sub-zero, add-assoc, mul-assoc, mul-comm, pow-suc, pow-le-pow-right, mul-le-mul-right, mod-one, mod-lt, mod-eq-of-lt, div-add-mod', div-div-eq-div-mul, add-mul, one-le-pow, div-lt-iff-lt-mul}
+use native.Mathlib.Nat.{add-zero, sub-zero, add-assoc, mul-assoc, mul-comm, pow-suc, pow-le-pow-right, mul-le-mul-right, mod-one, mod-lt, mod-eq-of-lt, div-add-mod'}
+use native.Mathlib.Nat.{div-div-eq-div-mul, add-mul, one-le-pow, div-lt-iff-lt-mul}
 use native.Mathlib.Numerals.{add-one}
 use native.Mathlib.Omega.{arith}
 use lib.ListN.{length, set}
-use lib.Dec.{leb, ltb}
 use borrow.Author.Tests.{lt-ltb, le-ltb, lt-leb, le-leb}
 use Rattle.octets.specs.Number.{byteAt, bytesOf}
-use Rattle.octets.specs.Digits.{isDigit, none, digitsFrom, numberAt, Number, digitsOf, fewestFrom, fewest}
+use Rattle.octets.specs.Digits.{isDigit, none, digitsFrom, numberAt, digitsOf, fewestFrom, fewest}
+use Rattle.octets.specs.Premises.{Number}
 use Rattle.octets.specs.Area.{Has, Wrote}
 use Rattle.octets.proofs.AreaLaws.{has-head, has-tail, wrote-none, wrote-as, set-sets}
 use Rattle.octets.proofs.Cases.{le-or-lt}

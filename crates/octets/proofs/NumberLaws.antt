@@ -3,11 +3,13 @@
 use Prim.Native.Nat.{ℕ, zero, suc, _+_, _*_, _/_, _%_, _^_, _≤_, _<_}
 use mathlib.Core.List.{List, _++_, append-nil}
 use mathlib.Core.Path.{_≡_, refl, sym, ap, _∙_}
-use native.Mathlib.Nat.{add-zero, zero-add, suc-add, add-suc, add-assoc, mul-assoc, mul-add, pow-succ', pow-suc, div-one, div-div-eq-div-mul, mod-add-div, mod-eq-of-lt, mod-lt, div-lt-iff-lt-mul, add-mul-mod-self-left, add-mul-div-left, div-eq-of-lt, mul-le-mul-left, one-le-pow}
+use native.Mathlib.Nat.{add-zero, zero-add, suc-add, add-suc, add-assoc, mul-assoc, mul-add, pow-succ', pow-suc, div-one, div-div-eq-div-mul, mod-add-div, mod-eq-of-lt, mod-lt}
+use native.Mathlib.Nat.{div-lt-iff-lt-mul, add-mul-mod-self-left, add-mul-div-left, div-eq-of-lt, mul-le-mul-left, one-le-pow}
 use native.Mathlib.Numerals.{add-one}
 use native.Mathlib.Omega.{arith}
 use lib.ListN.{length, set}
-use Rattle.octets.specs.Number.{byteAt, numAt, bytesOf, Reads}
+use Rattle.octets.specs.Number.{byteAt, numAt, bytesOf}
+use Rattle.octets.specs.Premises.{Reads}
 use Rattle.octets.specs.Area.{Has, Wrote}
 use Rattle.octets.proofs.AreaLaws.{has-head, has-tail, wrote-as, wrote-join}
 
@@ -46,7 +48,8 @@ mod-parts a b v pa pb =
     let low = mod-lt v pa in
     let high = mod-lt q pb in
     let small : v % a + a * (q % b) < a * b = join-small (v % a) (q % b) a b low high in
-    let whole : v ≡ (v % a + a * (q % b)) + a * b * (q / b) = sym (mod-add-div v a) ∙ ap (λ (x : ℕ). v % a + a * x) (sym (mod-add-div q b)) ∙ rw (mul-add a, add-assoc, mul-assoc) in
+    let whole : v ≡ (v % a + a * (q % b)) + a * b * (q / b) = sym (mod-add-div v a) ∙ ap (λ (x : ℕ). v % a + a * x) (sym (mod-add-div q b))
+    ∙ rw (mul-add a, add-assoc, mul-assoc) in
     ap (λ (x : ℕ). x % (a * b)) whole ∙ add-mul-mod-self-left (v % a + a * (q % b)) (a * b) (q / b) ∙ mod-eq-of-lt small
 
 mod-low : (a b v : ℕ) → 0 < a → 0 < b → v % (a * b) % a ≡ v % a

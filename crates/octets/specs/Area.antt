@@ -1,4 +1,4 @@
--- Bytes that stand in a list, and bytes written into an area. Assumes nothing.
+-- Bytes that stand in a list, and bytes written into an area. It serves the proofs, and nothing here need be believed. Assumes nothing.
 use Prim.Native.Nat.{ℕ, _+_, _≤_, _<_}
 use mathlib.Core.List.{List, _++_}
 use mathlib.Core.Path.{_≡_}

@@ -1,8 +1,7 @@
 -- Decimal digits of a stated width, read and written. Assumes nothing.
-use Prim.Native.Nat.{ℕ, zero, suc, _+_, _-_, _*_, _/_, _%_, _^_, _≤_}
+use Prim.Native.Nat.{ℕ, zero, suc, _+_, _-_, _*_, _/_, _%_, _^_}
 use mathlib.Core.Bool.{Bool, cond, _&&_}
 use mathlib.Core.List.{List, [], _∷_}
-use mathlib.Core.Path.{_≡_}
 use lib.Dec.{leb, ltb}
 use Rattle.octets.specs.Number.{byteAt}
 
@@ -22,11 +21,6 @@ digitsFrom (suc n) s i led = cond (isDigit (byteAt s i)) (digitsFrom n s (i + 1)
 -- the decimal number in the n bytes of s from i on
 unfoldable pub numberAt : List ℕ → ℕ → ℕ → ℕ
 numberAt s i n = digitsFrom n s i 0
-
--- what reading n digits answers: the number, below 10 ^ n, or none
-pub record Number (s : List ℕ) (i n r : ℕ) : Type 0 where
-  pub is : r ≡ numberAt s i n
-  pub most : r ≤ none
 
 -- v in w decimal digits with leading zeros; what of v does not fit is lost. v stays as it is, so that the last c digits are `digitsOf c v`
 unfoldable pub digitsOf : ℕ → ℕ → List ℕ

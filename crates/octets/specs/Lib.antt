@@ -1,4 +1,5 @@
 -- The notions of `octets`, in the order in which a reader should meet them.
 pub mod Number
 pub mod Digits
+pub mod Premises
 pub mod Area

@@ -1,7 +1,6 @@
 -- Numbers in bytes, low byte first, at any width. Assumes nothing.
-use Prim.Native.Nat.{ℕ, zero, suc, _+_, _*_, _/_, _%_, _^_, _<_}
+use Prim.Native.Nat.{ℕ, zero, suc, _+_, _*_, _/_, _%_}
 use mathlib.Core.List.{List, [], _∷_}
-use mathlib.Core.Path.{_≡_}
 use lib.ListN.{getD}
 
 -- the byte of s at i, 0 past its end
@@ -17,8 +16,3 @@ numAt s p (suc n) = byteAt s p + 256 * numAt s (suc p) n
 unfoldable pub bytesOf : ℕ → ℕ → List ℕ
 bytesOf zero v = []
 bytesOf (suc n) v = v % 256 ∷ bytesOf n (v / 256)
-
--- r is the number in the n bytes from p on, and so is below 256 ^ n
-pub record Reads (s : List ℕ) (p n r : ℕ) : Type 0 where
-  pub is : r ≡ numAt s p n
-  pub small : r < 256 ^ n

@@ -2,7 +2,8 @@
 ghost use Prim.Native.Nat.{_+_, _≤_, _<_};
 ghost use mathlib.Core.Path.{_≡_};
 ghost use lib.ListN.{length};
-ghost use Rattle.octets.specs.Digits.{Number, digitsOf, fewest};
+ghost use Rattle.octets.specs.Digits.{digitsOf, fewest};
+ghost use Rattle.octets.specs.Premises.{Number};
 ghost use Rattle.octets.specs.Area.{Wrote};
 use crate::number::put1;
 use crate::number::wide;

@@ -2,7 +2,8 @@
 ghost use Prim.Native.Nat.{_+_, _≤_, _<_};
 ghost use mathlib.Core.Path.{_≡_};
 ghost use lib.ListN.{length};
-ghost use Rattle.octets.specs.Number.{Reads, bytesOf};
+ghost use Rattle.octets.specs.Number.{bytesOf};
+ghost use Rattle.octets.specs.Premises.{Reads};
 ghost use Rattle.octets.specs.Area.{Wrote};
 
 // A byte as a wider number: with its bound, which a cast in place would lose.

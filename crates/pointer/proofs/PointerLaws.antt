@@ -6,7 +6,7 @@ use mathlib.Core.Path.{_≡_, refl, sym, ap, _∙_}
 use native.Mathlib.Omega.{arith}
 use lib.ListN.{length, take, drop}
 use borrow.Author.Tests.{ne-eqb}
-use Rattle.octets.specs.Number.{Reads}
+use Rattle.octets.specs.Premises.{Reads}
 use Rattle.octets.proofs.Tests.{told-no, told-yes}
 use Rattle.words.specs.Order.{isIn}
 use Rattle.table.specs.Table.{rowOf, VRPT, FFPT, FSPT}
@@ -18,12 +18,16 @@ use Rattle.items.specs.declared.cursor.Cursor.{Cursor}
 use Rattle.items.specs.declared.cursor.Next.{Next}
 use Rattle.items.specs.declared.cursor.Next.the-variants.{Entry, Done}
 use Rattle.items.proofs.KindLaws.{vrpt-list, fspt-list, vrpt-fixed, ffpt-fixed, fspt-fixed}
+use Rattle.items.proofs.ItemLaws.{vrpt-said, ffpt-said, fspt-said}
 use Rattle.items.proofs.CursorLaws.{begin-left, next-done, next-left, next-bytes}
-use Rattle.names.specs.Lookup.{nameIn, indexOf, foundCode}
-use Rattle.names.specs.declared.lookup.Found.{Found}
-use Rattle.names.specs.declared.lookup.Found.the-variants.{At, Nothing}
-use Rattle.names.proofs.LookupLaws.{code-at, code-nothing}
-use Rattle.pointer.specs.Pointer.{firstCode, namesCode, lnamsCode, heldFoid, pointerCode}
+use Rattle.lookups.specs.Lookup.{nameIn, foundCode}
+use Rattle.lookups.specs.LookupWords.{indexOf}
+use Rattle.lookups.specs.declared.lookup.Found.{Found}
+use Rattle.lookups.specs.declared.lookup.Found.the-variants.{At, Nothing}
+use Rattle.lookups.proofs.LookupLaws.{code-at, code-nothing}
+use Rattle.pointer.specs.Pointer.{namesCode, lnamsCode, pointerCode}
+use Rattle.answers.specs.First.{firstCode, firstBy}
+use Rattle.pointer.specs.Premises.{heldFoid}
 
 -- ---- entries of VRPT and FSPT hold a name
 pub vrpt-wide : 5 ≤ rowOf VRPT .fixed
@@ -64,11 +68,11 @@ module _ (ws s : List ℕ) (at k : ℕ) (c : Cursor) (so : namesCode (indexOf ws
 
     -- a name that no item has
     pub names-missing : found ≡ Nothing → 18 ≡ namesCode (indexOf ws) (entriesAt s at k)
-    unfolding firstCode
+    unfolding firstBy
     names-missing e = sym (names-here ∙ rw (e, code-nothing))
 
     pub names-on : (p : ℕ) → found ≡ At p → namesCode (indexOf ws) (entriesAt s at k) ≡ namesCode (indexOf ws) (left s at k next)
-    unfolding firstCode
+    unfolding firstBy
     names-on p e = names-here ∙ rw (e, code-at p)
 
 -- ---- turns of the LNAMs: ws are the FOIDs of all features
@@ -100,13 +104,13 @@ module _ (ws s : List ℕ) (at k : ℕ) (c : Cursor) (so : lnamsCode (heldFoid w
 module _ (ws foids s : List ℕ) (at r : ℕ) (read : r ≡ rcnmAt s at) where
   pub vector-code : (n : ℕ) → (r ≡ 100 → ⊥) → n ≡ namesCode (indexOf ws) (entriesAt s at VRPT) → n ≡ pointerCode (indexOf ws) (heldFoid foids) (itemAt s at)
   unfolding pointerCode
-  vector-code n ne is = rw (← read, ne-eqb r 100 ne) is
+  vector-code n ne is = rw (← read, ne-eqb r 100 ne, vrpt-said s at) is
 
   module _ (feature : r ≡ 100) (related : ℕ) (first : related ≡ lnamsCode (heldFoid foids) (entriesAt s at FFPT)) where
     pub feature-related : (related ≡ 0 → ⊥) → related ≡ pointerCode (indexOf ws) (heldFoid foids) (itemAt s at)
-    unfolding pointerCode firstCode
-    feature-related ne = rw (← read, feature, ← first, ne-eqb related 0 ne)
+    unfolding pointerCode firstBy
+    feature-related ne = rw (← read, feature, ffpt-said s at, ← first, ne-eqb related 0 ne)
 
     pub feature-spatial : (n : ℕ) → related ≡ 0 → n ≡ namesCode (indexOf ws) (entriesAt s at FSPT) → n ≡ pointerCode (indexOf ws) (heldFoid foids) (itemAt s at)
-    unfolding pointerCode firstCode
-    feature-spatial n e is = rw (← read, feature, ← first, e) is
+    unfolding pointerCode firstBy
+    feature-spatial n e is = rw (← read, feature, ffpt-said s at, fspt-said s at, ← first, e) is

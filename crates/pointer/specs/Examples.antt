@@ -9,8 +9,11 @@ use Rattle.words.specs.Order.{isIn}
 use Rattle.table.specs.Table.{VRPT, FFPT}
 use Rattle.items.specs.Item.{Item}
 use Rattle.items.specs.Identity.{rankOf, nameFrom}
-use Rattle.names.specs.Lookup.{nameIn, indexFrom, indexOf, foundCode}
-use Rattle.pointer.specs.Pointer.{firstCode, namesCode, lnamsCode, heldFoid, pointerCode}
+use Rattle.lookups.specs.Lookup.{nameIn, foundCode}
+use Rattle.lookups.specs.LookupWords.{indexFrom, indexOf}
+use Rattle.pointer.specs.Pointer.{namesCode, lnamsCode, pointerCode}
+use Rattle.answers.specs.First.{firstBy}
+use Rattle.pointer.specs.Premises.{heldFoid}
 
 -- an entry of VRPT that points to the connected node with this RCID, and one of FFPT with this LNAM
 abbrev node : ℕ → List ℕ
@@ -25,11 +28,11 @@ words = (4294967301 * 16777216 + 7) ∷ (4294967302 * 16777216 + 100) ∷ []
 
 -- both names are there; of two the second is missing
 names-there : namesCode (indexOf words) (node 6 ∷ node 5 ∷ []) ≡ 0
-unfolding namesCode firstCode foundCode indexOf indexFrom nameIn nameFrom rankOf numAt
+unfolding namesCode firstBy foundCode indexOf indexFrom nameIn nameFrom rankOf numAt
 names-there = refl
 
 second-missing : namesCode (indexOf words) (node 5 ∷ node 7 ∷ []) ≡ 18
-unfolding namesCode firstCode foundCode indexOf indexFrom nameIn nameFrom rankOf numAt
+unfolding namesCode firstBy foundCode indexOf indexFrom nameIn nameFrom rankOf numAt
 second-missing = refl
 
 -- "several may": two features share the FOID 9
@@ -44,15 +47,16 @@ lnam-missing = refl
 -- an item of this RCNM that has the nodes 5 and 6 in VRPT and the LNAM 8, which no feature has: of a vector VRPT counts, of a feature FFPT
 abbrev both : ℕ → Item
 both rcnm = record {
-  place = 0;
   rcnm = rcnm;
   rcid = 1;
+  version = 1;
   prim = 255;
+  grup = 2;
   objl = 400;
   foid = 9;
-  entries = λ k. cond (eqb k VRPT) (node 5 ∷ node 6 ∷ []) (cond (eqb k FFPT) (lnam 8 ∷ []) []);
+  lists = λ k. cond (eqb k VRPT) (node 5 ∷ node 6 ∷ []) (cond (eqb k FFPT) (lnam 8 ∷ []) []);
 }
 
 by-class : (pointerCode (indexOf words) (heldFoid (9 ∷ [])) (both 130) ≡ 0) × (pointerCode (indexOf words) (heldFoid (9 ∷ [])) (both 100) ≡ 18)
-unfolding pointerCode namesCode lnamsCode heldFoid isIn firstCode foundCode indexOf indexFrom nameIn nameFrom rankOf numAt
+unfolding pointerCode namesCode lnamsCode heldFoid isIn firstBy foundCode indexOf indexFrom nameIn nameFrom rankOf numAt
 by-class = (refl, refl)

@@ -3,35 +3,28 @@
 // among the words of the work area from `names`.
 ghost use Prim.Native.Nat.{_+_, _-_, _≤_};
 ghost use mathlib.Core.Path.{_≡_};
-ghost use Rattle.iso8211.specs.Field.{HeadOf};
+ghost use Rattle.iso8211.specs.Premises.{HeadOf};
 ghost use Rattle.table.specs.Table.{rowOf, FFPT};
 ghost use Rattle.words.specs.Words.{wordsIn};
-ghost use Rattle.items.specs.Lists.{entriesAt, LaidOut, Listed};
-ghost use Rattle.items.specs.Identity.{Identified};
+ghost use Rattle.items.specs.Lists.{entriesAt};
 ghost use Rattle.items.specs.Item.{itemAt};
-ghost use Rattle.names.specs.Lookup.{indexOf};
-ghost use Rattle.names.specs.Held.{Noted};
-ghost use Rattle.pointer.specs.Pointer.{heldFoid, namesCode, lnamsCode, pointerCode};
+ghost use Rattle.lookups.specs.LookupWords.{indexOf};
+ghost use Rattle.pointer.specs.Pointer.{namesCode, lnamsCode, pointerCode};
+ghost use Rattle.pointer.specs.Premises.{heldFoid};
+use answers::codes::POINTER;
 use iso8211::field::Head;
 use items::Next;
 use items::cursor::begin;
 use items::identity::rcnm_of;
 use items::step::next;
-use names::lookup::Found;
-use names::lookup::has_word;
-use names::lookup::index_of;
-use names::lookup::name_in;
+use lookups::lookup::Found;
+use lookups::lookup::has_word;
+use lookups::lookup::index_of;
+use lookups::lookup::name_in;
 use octets::number::get8;
-
-// The lists' numbers in the table.
-const VRPT: usize = 6;
-
-const FFPT: usize = 15;
-
-const FSPT: usize = 17;
-
-// Document 01's code.
-const POINTER: u32 = 18;
+use table::kinds;
+ghost use Rattle.items.specs.Premises.{LaidOut, Listed, Identified};
+ghost use Rattle.names.specs.Premises.{Noted};
 
 // Whether every name in the list of kind k is one of the m items'.
 pub fn names_code(s: &[u8], at: usize, h: Head, k: usize, work: &[u8], m: usize, v: usize) -> u32
@@ -57,7 +50,7 @@ pub fn lnams_code(s: &[u8], at: usize, h: Head, work: &[u8], m: usize, v: usize)
 {
     let mut c = begin();
     loop {
-        let Next::Entry(from, to, after) = next(s, at, h, FFPT, c) else {
+        let Next::Entry(from, to, after) = next(s, at, h, kinds::FFPT, c) else {
             return 0;
         };
         if !has_word(work, m + v, m - v, get8(&s[from..to], 0)) {
@@ -73,11 +66,11 @@ pub fn pointer_code(s: &[u8], at: usize, h: Head, work: &[u8], m: usize, v: usiz
     ensures { λ r. ⌜ r ≡ pointerCode (indexOf (wordsIn (now (work .entry)) 0 m)) (heldFoid (wordsIn (now (work .entry)) (m + v) (m - v))) (itemAt (now (s .entry)) at) ⌝ }
 {
     if rcnm_of(s, at, h) != 100 {
-        return names_code(s, at, h, VRPT, work, m, v);
+        return names_code(s, at, h, kinds::VRPT, work, m, v);
     }
     let related = lnams_code(s, at, h, work, m, v);
     if related != 0 {
         return related;
     }
-    names_code(s, at, h, FSPT, work, m, v)
+    names_code(s, at, h, kinds::FSPT, work, m, v)
 }

@@ -5,9 +5,10 @@ use mathlib.Core.Logic.{⊎-elim}
 use mathlib.Core.Path.{_≡_}
 use native.Mathlib.Omega.{arith}
 use lib.ListN.{length}
-use Rattle.iso8211.specs.Descriptive.{partsOf, Within}
-use Rattle.iso8211.specs.declared.descriptive.Parts.{Parts}
-use Rattle.iso8211.proofs.DescriptiveLaws.{parts-either}
+use Rattle.fieldparts.specs.Descriptive.{partsOf}
+use Rattle.fieldparts.specs.PartsPremises.{Within}
+use Rattle.fieldparts.specs.declared.descriptive.Parts.{Parts}
+use Rattle.fieldparts.proofs.DescriptiveLaws.{parts-either}
 
 pub cut-few : (s : List ℕ) (p : Parts) → p ≡ partsOf s → (p .name ≤ length s) × (p .labels ≤ length s)
 cut-few s p is =

@@ -4,7 +4,8 @@ use mathlib.Core.List.{List}
 use mathlib.Core.Path.{_≡_}
 use native.Mathlib.Omega.{arith}
 use lib.ListN.{length}
-use Rattle.iso8211.specs.Field.{fieldAt, HeadOf, RecordIn}
+use Rattle.iso8211.specs.Field.{fieldAt}
+use Rattle.iso8211.specs.Premises.{HeadOf, RecordIn}
 use Rattle.iso8211.specs.declared.field.Field.{Field}
 use Rattle.iso8211.specs.declared.field.Head.{Head}
 

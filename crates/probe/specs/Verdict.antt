@@ -1,4 +1,4 @@
--- The verdict on a file, as one number. Assumes nothing.
+-- The verdict on a file, as one number. It serves the proofs, and nothing here need be believed. Assumes nothing.
 use Prim.Native.Nat.{ℕ, _+_, _*_}
 use Rattle.iso8211.specs.declared.file.Framed.{Framed}
 use Rattle.iso8211.specs.declared.file.Framed.the-variants.{Records, Broken}

@@ -4,7 +4,7 @@ ghost use Prim.Native.Nat.{_+_, _*_, _<_};
 ghost use mathlib.Core.Path.{_≡_};
 ghost use Rattle.iso8211.specs.File.{frameOf};
 ghost use Rattle.iso8211.specs.declared.file.Framed.the-variants.{Records};
-ghost use Rattle.iso8211.specs.Field.{RecordIn};
+ghost use Rattle.iso8211.specs.Premises.{RecordIn};
 use iso8211::Field;
 use iso8211::field::field_at;
 use iso8211::field::head_of;

@@ -5,9 +5,9 @@ ghost use Prim.Native.Nat.{_+_, _*_, _<_};
 ghost use mathlib.Core.Path.{_≡_};
 ghost use Rattle.iso8211.specs.File.{frameOf};
 ghost use Rattle.probe.specs.Verdict.{verdictOf};
+use fieldparts::descriptive::cut;
 use formats::write_out;
 use iso8211::Framed;
-use iso8211::descriptive::cut;
 use iso8211::file::frame;
 
 pub mod described;

@@ -1,9 +1,9 @@
 // Reading whole, as a host test calls it: the code is returned, and an answer area of 20 bytes gets
 // code, file, record, number and offset, each in four bytes, low byte first.
+use answers::Answer;
 use octets::number::put4;
-use reader::Answer;
-use reader::read::read_both;
-use reader::read::read_cell;
+use readboth::read::read_both;
+use readboth::read::read_cell;
 
 // A number in four bytes; those of an answer about files of at most 5,242,880 bytes fit.
 fn low(v: usize) -> u32 {

@@ -6,29 +6,21 @@ use mathlib.Core.Logic.{⊎-elim, _⊎_, inl, inr}
 use mathlib.Core.Path.{_≡_, refl, sym, _∙_}
 use native.Mathlib.Omega.{arith}
 use lib.ListN.{length}
-use lib.Dec.{eqb, ltb}
-use borrow.Author.Tests.{ne-eqb, lt-ltb, le-ltb}
+use lib.Dec.{eqb}
+use borrow.Author.Tests.{lt-ltb, le-ltb}
 use Rattle.octets.proofs.Cases.{eq-or-ne}
 use Rattle.iso8211.specs.Record.{recordGood, endOf}
-use Rattle.iso8211.specs.Field.{FramedAt}
+use Rattle.iso8211.specs.Premises.{FramedAt}
 use Rattle.iso8211.specs.File.{framedFrom, frameOf, recordAt}
 use Rattle.iso8211.specs.declared.file.Framed.{Framed}
 use Rattle.iso8211.specs.declared.file.Framed.the-variants.{Records, Broken}
 use Rattle.iso8211.proofs.RecordLaws.{record-framed}
 use Rattle.iso8211.proofs.Promise.{at-next}
-use Rattle.chart.specs.declared.read.Refusal.{Refusal}
-use Rattle.reader.specs.Reader.{answer, filed, framedFront, frontOf, Before}
-use Rattle.reader.specs.declared.answer.Answer.{Answer}
+use Rattle.answers.specs.Answer.{answer}
+use Rattle.reader.specs.Lent.{GoodBefore}
+use Rattle.reader.specs.Reader.{framedFront, frontOf}
+use Rattle.answers.specs.declared.answer.Answer.{Answer}
 use Rattle.reader.specs.declared.front.Front.the-variants.{Count, Refused}
-
--- ---- filed
-pub filed-none : (file : ℕ) (r : Refusal) (a : Answer) → r .code ≡ 0 → a ≡ answer 0 0 0 0 0 → a ≡ filed file r
-unfolding filed
-filed-none file r a z e = e ∙ rw z
-
-pub filed-some : (file : ℕ) (r : Refusal) (a : Answer) → (r .code ≡ 0 → ⊥) → a ≡ answer (r .code) file (r .index) 0 (r .offset) → a ≡ filed file r
-unfolding filed
-filed-some file r a n e = e ∙ rw (ne-eqb _ _ n)
 
 -- ---- the records before a broken one are good
 broken-apart : (good last : Bool) (k j : ℕ) (on : Framed) → cond good (cond last (Records (k + 1)) on) (Broken k) ≡ Broken j → (k ≡ j) ⊎ ((good ≡ true) × (on ≡ Broken j))
@@ -46,7 +38,7 @@ good-before (suc f) s at k b j v e low high =
     (λ (other : k ≡ j → ⊥). good-before f s (endOf s at) (k + 1) b j (on .1) (at-next s k at e) (omega arith) high) (eq-or-ne k j))
     (broken-apart (recordGood (eqb k 0) s at) (eqb (endOf s at) (length s)) k b (framedFrom f s (endOf s at) (k + 1)) v)
 
-pub before : (s : List ℕ) (k : ℕ) (r : Framed) → r ≡ frameOf s → r ≡ Broken k → Before s k
+pub before : (s : List ℕ) (k : ℕ) (r : Framed) → r ≡ frameOf s → r ≡ Broken k → GoodBefore s k
 unfolding frameOf recordAt
 before s k r e told = record { framed = λ j less. record-framed (eqb j 0) s (recordAt s j) (good-before (suc (length s)) s 0 0 k j (sym e ∙ told) refl (omega arith) less) }
 
@@ -65,7 +57,7 @@ module _ (file : ℕ) (s : List ℕ) (r : Framed) (few : length s ≤ 5242880) (
   front-broken k p a told at e = rw (le-ltb 5242880 (length s) few, ← is, told, e, at)
 
 -- ---- place
-pub place-framed : {s : List ℕ} {k at : ℕ} (j : ℕ) → Before s k → at ≡ recordAt s j → j < k → FramedAt s at
+pub place-framed : {s : List ℕ} {k at : ℕ} (j : ℕ) → GoodBefore s k → at ≡ recordAt s j → j < k → FramedAt s at
 place-framed j b e h = rw e (b .framed j h)
 
 pub place-end : (s : List ℕ) (at j k : ℕ) → at ≡ recordAt s j → j ≡ k → at ≡ recordAt s k

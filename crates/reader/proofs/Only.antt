@@ -3,8 +3,8 @@ use Prim.Native.Nat.{ℕ}
 use mathlib.Core.List.{List}
 use mathlib.Core.Path.{_≡_, sym, _∙_}
 use lib.ListN.{length, replicate}
-use Rattle.reader.specs.Reader.{readCell, readBoth}
-use Rattle.reader.specs.declared.answer.Answer.{Answer}
+use Rattle.reader.specs.Calls.{readCell, readBoth}
+use Rattle.answers.specs.declared.answer.Answer.{Answer}
 
 -- what `read_cell` promises of its answer and of the work area, which was w before and is `after` now
 pub record CellRead (cell w after : List ℕ) (r : Answer) : Type 0 where

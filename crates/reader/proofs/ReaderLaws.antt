@@ -1,6 +1,6 @@
 -- Laws of reading whole: what a file without a refusal of codes 4 to 6 gives to those who read its names and counts, and the answers in
 -- order. Assumes nothing.
-use Prim.Native.Nat.{ℕ, zero, suc, _+_, _-_, _≤_, _<_}
+use Prim.Native.Nat.{ℕ, suc, _+_, _-_, _≤_, _<_}
 use mathlib.Core.Bool.{Bool, true, false, not, _||_}
 use mathlib.Core.List.{List}
 use mathlib.Core.Logic.{⊎-elim, _⊎_, inl, inr}
@@ -10,36 +10,44 @@ use native.Mathlib.Omega.{arith}
 use lib.ListN.{length}
 use lib.Dec.{eqb}
 use borrow.Author.Tests.{eq-eqb, ne-eqb, eqb-true}
+use Rattle.headvalues.specs.Dspm.{mostComf}
 use Rattle.octets.specs.Number.{byteAt, numAt}
-use Rattle.octets.proofs.Cases.{eq-or-ne}
+use Rattle.octets.proofs.Cases.{eq-or-ne, true-or-false}
 use Rattle.octets.proofs.Tests.{told-no, told-yes}
 use Rattle.iso8211.specs.Record.{endOf}
-use Rattle.iso8211.specs.Field.{fieldAt, RecordIn}
+use Rattle.iso8211.specs.Field.{fieldAt}
+use Rattle.iso8211.specs.Premises.{RecordIn}
 use Rattle.iso8211.specs.File.{frameOf, recordAt}
 use Rattle.iso8211.specs.declared.file.Framed.the-variants.{Records}
 use Rattle.iso8211.proofs.Promise.{record-in, fields-in, at-next, at-first}
 use Rattle.table.specs.Table.{VRID, FRID, DSPM}
 use Rattle.attributes.proofs.PartLaws.{part-byte, part-number}
 use Rattle.values.specs.Vrid.{isVector}
-use Rattle.values.proofs.Promise.{vrid-good, frid-good, dspm-good}
-use Rattle.described.specs.Described.{describedOf}
-use Rattle.layout.specs.Record.{Laid, kindAt, contentAt}
+use Rattle.headvalues.proofs.Promise.{vrid-good, frid-good, dspm-good}
+use Rattle.declarations.specs.Described.{describedOf}
+use Rattle.layout.specs.Record.{kindAt, contentAt}
+use Rattle.layout.specs.Premises.{Laid, DssiThere, DspmThere}
 use Rattle.layout.proofs.Promise.{laid, laid-item, laid-late, laid-dspm, full-vrid, full-frid, full-dspm, content-length}
-use Rattle.items.specs.Lists.{LaidOut}
-use Rattle.items.specs.Identity.{Identified, rcnmAt, idAt}
+use Rattle.items.specs.Premises.{LaidOut, Identified}
+use Rattle.items.specs.Identity.{rcnmAt, idAt}
 use Rattle.items.proofs.Promise.{laid-record, laid-featured, vector-identified, feature-identified}
-use Rattle.chart.specs.Read.{refusal, fine, readFault}
-use Rattle.chart.specs.declared.read.Refusal.{Refusal}
+use Rattle.chart.specs.Read.{readFault}
 use Rattle.chart.proofs.Promise.{Here, Fair, good-records, fair, fair-vrid, fair-frid, fair-dspm}
 use Rattle.words.specs.Words.{wordsIn}
 use Rattle.words.specs.Order.{sorted}
-use Rattle.names.specs.Names.{firstItem, nameWords, Readable, twiceOf}
-use Rattle.names.specs.Held.{HeldIn}
-use Rattle.names.specs.Counts.{DssiThere, countsGood}
-use Rattle.names.specs.Comf.{comfAt, DspmThere}
+use Rattle.names.specs.NameWords.{nameWords}
+use Rattle.names.specs.Premises.{Readable, HeldIn}
+use Rattle.names.specs.Names.{firstItem, twiceOf}
+use Rattle.counted.specs.Counts.{countsGood}
 use Rattle.names.proofs.ReadableLaws.{dssi-there, dspm-there}
 use Rattle.names.specs.declared.twice.Repeat.{Repeat}
-use Rattle.reader.specs.Reader.{twiceRefusal, countsRefusal, cellFault, updateFault, ComeIn}
+use Rattle.reader.specs.Reader.{twiceRefusal, countsRefusal, cellFault, updateFault}
+use Rattle.layout.specs.General.{comfAt}
+use Rattle.answers.specs.Answer.{refusal}
+use Rattle.answers.specs.First.{firstBy}
+use Rattle.answers.proofs.FirstLaws.{first-told, first-stays}
+use Rattle.answers.specs.declared.refusal.Refusal.{Refusal}
+use Rattle.reader.specs.Lent.{ComeIn}
 
 rcnm-there : (s : List ℕ) (at : ℕ) → byteAt s (idAt s at + 0) ≡ rcnmAt s at
 unfolding rcnmAt
@@ -96,7 +104,7 @@ module _ (update : Bool) (s : List ℕ) (n k : ℕ) (framed : frameOf s ≡ Reco
       let good = frid-good update (contentAt s (recordAt s k) 1) (fair-frid _ e fair-here) in
       sym (name-here (omega arith)) ∙ good .rcnm
 
-  factor-here : kindAt s (recordAt s k) 1 ≡ DSPM → numAt s (fieldAt s (recordAt s k) 1 .start + 16) 4 ≤ 10000000
+  factor-here : kindAt s (recordAt s k) 1 ≡ DSPM → numAt s (fieldAt s (recordAt s k) 1 .start + 16) 4 ≤ mostComf
   factor-here e =
       let two = laid-here .two in
       let long = full-dspm (contentAt s (recordAt s k) 1) (rw e at (laid-here .full 1 (omega arith))) .long in
@@ -107,9 +115,11 @@ module _ (update : Bool) (s : List ℕ) (n k : ℕ) (framed : frameOf s ≡ Reco
   identified : 2 ≤ here .good .state .stage → Identified s (recordAt s k)
   identified two =
       let few = here .stage .few in
-      let feature : kindAt s (recordAt s k) 1 ≡ FRID → Identified s (recordAt s k) = λ (e : kindAt s (recordAt s k) 1 ≡ FRID). feature-identified s (recordAt s k) out-here (laid-featured laid-here out-here e) (feature-here e) in
+      let feature : kindAt s (recordAt s k) 1 ≡ FRID → Identified s (recordAt s k) = λ (e : kindAt s (recordAt s k) 1 ≡ FRID). feature-identified s (recordAt s k) out-here
+      (laid-featured laid-here out-here e) (feature-here e) in
       ⊎-elim (λ (e2 : here .good .state .stage ≡ 2).
-      ⊎-elim (λ (v : kindAt s (recordAt s k) 1 ≡ VRID). vector-identified s (recordAt s k) out-here v (vector-one (rcnmAt s (recordAt s k)) (vector-here v))) feature (laid-item laid-here e2))
+      ⊎-elim (λ (v : kindAt s (recordAt s k) 1 ≡ VRID). vector-identified s (recordAt s k) out-here v (vector-one (rcnmAt s (recordAt s k)) (vector-here v))) feature
+      (laid-item laid-here e2))
       (λ (other : here .good .state .stage ≡ 2 → ⊥). feature (laid-late laid-here (omega arith)))
       (eq-or-ne (here .good .state .stage) 2)
 
@@ -151,7 +161,7 @@ dssi-read s n framed none =
     dssi-there n framed one (rw state at (laid-here false s n 1 framed one h))
 
 -- DSPM of a cell, and its COMF
-factor-read : (s : List ℕ) → numAt s (fieldAt s (recordAt s 2) 1 .start + 16) 4 ≤ 10000000 → comfAt s ≤ 10000000
+factor-read : (s : List ℕ) → numAt s (fieldAt s (recordAt s 2) 1 .start + 16) 4 ≤ mostComf → comfAt s ≤ mostComf
 unfolding comfAt
 factor-read s h = h
 
@@ -165,53 +175,62 @@ dspm-read s n framed none =
     let laid = laid-here false s n 2 framed two h in
     dspm-there n framed two (rw state at laid) (factor-read s (factor-here false s n 2 framed two h (laid-dspm laid state .1)))
 
--- ---- a cell in which nothing was refused
-cell-passed : (s : List ℕ) (n : ℕ) → cellFault s n .code ≡ 0 → readFault false s n .code ≡ 0
+-- ---- a file in which nothing was refused
+twice-none : (t : Repeat) → twiceRefusal t .code ≡ 0 → t .index ≡ 0
+unfolding twiceRefusal
+twice-none t z =
+    ⊎-elim (λ (h : t .index ≡ 0). h) (λ (h : t .index ≡ 0 → ⊥). absurd (let y : _≡_ {A = ℕ} 7 0 = rw (ne-eqb (t .index) 0 h) at z in omega arith)) (eq-or-ne (t .index) 0)
+
+counts-none : (s : List ℕ) (n : ℕ) → countsRefusal s n .code ≡ 0 → countsGood s n ≡ true
+unfolding countsRefusal
+counts-none s n z =
+    ⊎-elim (λ (h : countsGood s n ≡ true). h) (λ (h : countsGood s n ≡ false). absurd (let y : _≡_ {A = ℕ} 8 0 = rw h at z in omega arith))
+    (true-or-false (countsGood s n))
+
+pub cell-parts : (s : List ℕ) (n : ℕ) → cellFault s n .code ≡ 0 → (readFault false s n .code ≡ 0) × (twiceOf false s n .index ≡ 0) × (countsGood s n ≡ true)
 unfolding cellFault
-cell-passed s n z =
-    ⊎-elim (λ (h : readFault false s n .code ≡ 0). h)
-    (λ (h : readFault false s n .code ≡ 0 → ⊥). rw (ne-eqb (readFault false s n .code) 0 h) at z)
-    (eq-or-ne (readFault false s n .code) 0)
+cell-parts s n z =
+    let a = first-told (λ (r : Refusal). r .code) (readFault false s n) _ z in
+    let b = first-told (λ (r : Refusal). r .code) (twiceRefusal (twiceOf false s n)) (countsRefusal s n) (a .2) in
+    (a .0, twice-none (twiceOf false s n) (b .0), counts-none s n (b .2))
+
+pub update-parts : (s : List ℕ) (n : ℕ) → updateFault s n .code ≡ 0 → (readFault true s n .code ≡ 0) × (twiceOf true s n .index ≡ 0)
+unfolding updateFault
+update-parts s n z =
+    let a = first-told (λ (r : Refusal). r .code) (readFault true s n) (twiceRefusal (twiceOf true s n)) z in
+    (a .0, twice-none (twiceOf true s n) (a .2))
 
 pub cell-good : (s : List ℕ) (n : ℕ) → frameOf s ≡ Records n → length s ≤ 5242880 → cellFault s n .code ≡ 0 → Readable false s n
-cell-good s n framed short z = readable false s n framed short (cell-passed s n z)
+cell-good s n framed short z = readable false s n framed short (cell-parts s n z .0)
 
 pub cell-comf : (s : List ℕ) (n : ℕ) → frameOf s ≡ Records n → cellFault s n .code ≡ 0 → DspmThere s
-cell-comf s n framed z = dspm-read s n framed (cell-passed s n z)
-
--- ---- an update in which nothing was refused
-update-passed : (s : List ℕ) (n : ℕ) → updateFault s n .code ≡ 0 → readFault true s n .code ≡ 0
-unfolding updateFault
-update-passed s n z =
-    ⊎-elim (λ (h : readFault true s n .code ≡ 0). h)
-    (λ (h : readFault true s n .code ≡ 0 → ⊥). rw (ne-eqb (readFault true s n .code) 0 h) at z)
-    (eq-or-ne (readFault true s n .code) 0)
+cell-comf s n framed z = dspm-read s n framed (cell-parts s n z .0)
 
 pub update-good : (s : List ℕ) (n : ℕ) → frameOf s ≡ Records n → length s ≤ 5242880 → updateFault s n .code ≡ 0 → Readable true s n
-update-good s n framed short z = readable true s n framed short (update-passed s n z)
+update-good s n framed short z = readable true s n framed short (update-parts s n z .0)
 
 -- ---- cell_fault and update_fault: one law for each way out
 module _ (s : List ℕ) (n : ℕ) (r : Refusal) (is : r ≡ readFault false s n) where
   pub cell-read : (r .code ≡ 0 → ⊥) → r ≡ cellFault s n
   unfolding cellFault
-  cell-read h = is ∙ rw (ne-eqb (readFault false s n .code) 0 (λ z. h (ap (λ (q : Refusal). q .code) is ∙ z)))
+  cell-read h = is ∙ sym (first-stays (λ (q : Refusal). q .code) (readFault false s n) _ (λ z. h (ap (λ (q : Refusal). q .code) is ∙ z)))
 
   pub cell-none : r .code ≡ 0 → readFault false s n .code ≡ 0
   cell-none z = ap (λ (q : Refusal). q .code) (sym is) ∙ z
 
   module _ (z : r .code ≡ 0) (t : Repeat) (told : t ≡ twiceOf false s n) where
     pub cell-twice : (a : Refusal) → (t .index ≡ 0 → ⊥) → a ≡ refusal 7 (t .index) (t .offset) → a ≡ cellFault s n
-    unfolding cellFault twiceRefusal
+    unfolding cellFault twiceRefusal firstBy
     cell-twice a h e = e ∙ rw (eq-eqb _ _ (cell-none z), ← told, ne-eqb _ _ h)
 
     module _ (once : t .index ≡ 0) (q : Bool) (counted : q ≡ countsGood s n) where
       pub cell-counts : (a : Refusal) (p : ℕ) → not q ≡ true → p ≡ endOf s 0 → a ≡ refusal 8 1 p → a ≡ cellFault s n
-      unfolding cellFault twiceRefusal countsRefusal
+      unfolding cellFault twiceRefusal countsRefusal firstBy
       cell-counts a p h at e =
           e ∙ ap (refusal 8 1) (at ∙ at-next s 0 0 (sym (at-first s))) ∙ rw (eq-eqb _ _ (cell-none z), ← told, eq-eqb _ _ once, told-no q (countsGood s n) counted h)
 
       pub cell-fine : (a : Refusal) → not q ≡ false → a ≡ refusal 0 0 0 → a ≡ cellFault s n
-      unfolding cellFault twiceRefusal countsRefusal
+      unfolding cellFault twiceRefusal countsRefusal firstBy
       cell-fine a h e = e ∙ rw (eq-eqb _ _ (cell-none z), ← told, eq-eqb _ _ once, told-yes q (countsGood s n) counted h)
 
 -- the words are promised where there is no refusal
@@ -232,16 +251,16 @@ held-words e = record { words = e }
 module _ (s : List ℕ) (n : ℕ) (r : Refusal) (is : r ≡ readFault true s n) where
   pub update-read : (r .code ≡ 0 → ⊥) → r ≡ updateFault s n
   unfolding updateFault
-  update-read h = is ∙ rw (ne-eqb (readFault true s n .code) 0 (λ z. h (ap (λ (q : Refusal). q .code) is ∙ z)))
+  update-read h = is ∙ sym (first-stays (λ (q : Refusal). q .code) (readFault true s n) _ (λ z. h (ap (λ (q : Refusal). q .code) is ∙ z)))
 
   pub update-none : r .code ≡ 0 → readFault true s n .code ≡ 0
   update-none z = ap (λ (q : Refusal). q .code) (sym is) ∙ z
 
   module _ (z : r .code ≡ 0) (t : Repeat) (told : t ≡ twiceOf true s n) where
     pub update-twice : (a : Refusal) → (t .index ≡ 0 → ⊥) → a ≡ refusal 7 (t .index) (t .offset) → a ≡ updateFault s n
-    unfolding updateFault twiceRefusal
+    unfolding updateFault twiceRefusal firstBy
     update-twice a h e = e ∙ rw (eq-eqb _ _ (update-none z), ← told, ne-eqb _ _ h)
 
     pub update-fine : (a : Refusal) → t .index ≡ 0 → a ≡ refusal 0 0 0 → a ≡ updateFault s n
-    unfolding updateFault twiceRefusal
+    unfolding updateFault twiceRefusal firstBy
     update-fine a once e = e ∙ rw (eq-eqb _ _ (update-none z), ← told, eq-eqb _ _ once)

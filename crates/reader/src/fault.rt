@@ -5,17 +5,21 @@ ghost use mathlib.Core.Path.{_≡_};
 ghost use lib.ListN.{length};
 ghost use Rattle.words.specs.Words.{wordsIn};
 ghost use Rattle.words.specs.Order.{sorted};
-ghost use Rattle.names.specs.Names.{firstItem, nameWords, Readable, twiceOf};
-ghost use Rattle.names.specs.Held.{HeldIn};
-ghost use Rattle.reader.specs.Reader.{Lent, ComeIn, cellFault, updateFault};
-use chart::Refusal;
+ghost use Rattle.names.specs.NameWords.{nameWords};
+ghost use Rattle.names.specs.Premises.{Readable, HeldIn};
+ghost use Rattle.names.specs.Names.{firstItem, twiceOf};
+ghost use Rattle.reader.specs.Reader.{cellFault, updateFault};
 use chart::read::read_fault;
-use chart::read::refuse;
+use counted::counts::counts_good;
 use iso8211::field::record_end;
 use names::Repeat;
-use names::counts::counts_good;
 use names::order::order;
 use names::twice::twice;
+ghost use Rattle.reader.specs.Lent.{NamesLent, ComeIn};
+use answers::Refusal;
+use answers::codes::COUNTS;
+use answers::codes::TWICE;
+use answers::refusal::refuse;
 
 // The first name met twice, found by sorting the names in the work area; their words stay there, in
 // held order.
@@ -31,7 +35,7 @@ fn repeated(s: &[u8], n: usize, update: bool, work: &mut [u8]) -> Repeat
 // A cell's codes 4 to 8. One without any has left the words of its items, in held order, in the work
 // area.
 pub fn cell_fault(s: &[u8], n: usize, work: &mut [u8]) -> Refusal
-    requires { ⌜ Lent (now s) n (now work) ⌝ }
+    requires { ⌜ NamesLent (now s) n (now work) ⌝ }
     ensures { λ r. ⌜ r ≡ cellFault (now (s .entry)) n ⌝ }
     ensures { λ r. ⌜ (r .code ≡ 0 → HeldIn (now (s .entry)) n (now (work .exit))) ⌝ }
 {
@@ -43,17 +47,17 @@ pub fn cell_fault(s: &[u8], n: usize, work: &mut [u8]) -> Refusal
     let t = repeated(s, n, false, work);
     let index = t.index;
     if index != 0 {
-        return refuse(7, index, t.offset);
+        return refuse(TWICE, index, t.offset);
     }
     if !counts_good(s, n) {
-        return refuse(8, 1, record_end(s, 0));
+        return refuse(COUNTS, 1, record_end(s, 0));
     }
     refuse(0, 0, 0)
 }
 
 // An update's codes 4 to 7. One without any has left the words of its records there, by name ascending.
 pub fn update_fault(s: &[u8], n: usize, work: &mut [u8]) -> Refusal
-    requires { ⌜ Lent (now s) n (now work) ⌝ }
+    requires { ⌜ NamesLent (now s) n (now work) ⌝ }
     ensures { λ r. ⌜ r ≡ updateFault (now (s .entry)) n ⌝ }
     ensures { λ r. ⌜ (r .code ≡ 0 → ComeIn (now (s .entry)) n (now (work .exit))) ⌝ }
 {
@@ -65,7 +69,7 @@ pub fn update_fault(s: &[u8], n: usize, work: &mut [u8]) -> Refusal
     let t = repeated(s, n, true, work);
     let index = t.index;
     if index != 0 {
-        return refuse(7, index, t.offset);
+        return refuse(TWICE, index, t.offset);
     }
     refuse(0, 0, 0)
 }

@@ -14,23 +14,24 @@ use Rattle.octets.specs.Number.{bytesOf}
 use Rattle.octets.specs.Area.{Wrote, Going}
 use Rattle.octets.proofs.AreaLaws.{wrote-has, wrote-length, going-start}
 use Rattle.table.specs.Table.{rowOf}
-use Rattle.items.specs.Identity.{rcnmAt, versionAt, Identified, Featured}
-use Rattle.items.specs.Lists.{LaidOut, listAt}
+use Rattle.items.specs.Identity.{rcnmAt, versionAt}
+use Rattle.items.specs.Premises.{LaidOut, Identified, Featured}
+use Rattle.items.specs.Lists.{listAt}
 use Rattle.records.specs.Written.{bodyOf}
-use Rattle.objects.specs.Object.{objectAt}
+use Rattle.items.specs.Item.{itemAt}
 use Rattle.edits.specs.Lists.{allowedAt}
 use Rattle.edits.proofs.ListsLaws.{allowed-in}
 use Rattle.splice.specs.Put.{ListPut}
-use Rattle.writing.specs.Joined.{fieldPiece, fieldPieces, bytesFor, sumBy, Small}
-use Rattle.writing.proofs.RowLaws.{bytes-no, bytes-some}
+use Rattle.itemrows.specs.Joined.{fieldPiece, fieldPieces, bytesFor, sumBy, Small}
+use Rattle.itemrows.proofs.RowLaws.{bytes-no, bytes-some}
 use Rattle.writing.proofs.JoinedLaws.{field-long}
-use Rattle.writing.proofs.PartLaws.{field-none, field-last, field-put, fields-on, fields-end}
+use Rattle.joining.proofs.PartLaws.{field-none, field-last, field-put, fields-on, fields-end}
 use Rattle.changes.specs.Change.{amendmentAt, editOf}
 use Rattle.changes.specs.Amend.{kindsOf}
 use Rattle.amend.specs.declared.plan.Plan.{Plan}
 use Rattle.amend.specs.Sides.{Sides, listBytes}
 use Rattle.amend.specs.Pairs.{Paired, PlanFor}
-use Rattle.rebuild.specs.Record.{bothFor, Editable, ListsPut}
+use Rattle.raising.specs.Record.{bothFor, Editable, ListsPut}
 use Rattle.rebuild.proofs.SumLaws.{bytes-least, sum-two, edited-short, edited-both}
 
 bytes-less : (t : ℕ) → bytesFor t - 1 ≡ t
@@ -43,11 +44,11 @@ getD-past (x ∷ l) (suc j) d h = getD-past l j d (omega arith)
 
 -- ---- one list with its 1E
 module _ {cell : List ℕ} {at : ℕ} {update : List ℕ} {by : ℕ} (sides : Sides cell at update by) (k : ℕ) (list : rowOf k .list ≡ true)
-    (may : allowedAt (editOf (amendmentAt update by)) (objectAt cell at .lists) k ≡ true) where
+    (may : allowedAt (editOf (amendmentAt update by)) (itemAt cell at .lists) k ≡ true) where
   body-most : length (bodyOf (fieldPiece k (listBytes cell at update by k))) ≤ bothFor cell at update by k
   body-most = omega (arith, field-long k (listBytes cell at update by k), edited-both sides k list may)
 
-  module _ {a b : List ℕ} {place end : ℕ} (put : ListPut (allowedAt (editOf (amendmentAt update by)) (objectAt cell at .lists) k) (listBytes cell at update by k) a place b end)
+  module _ {a b : List ℕ} {place end : ℕ} (put : ListPut (allowedAt (editOf (amendmentAt update by)) (itemAt cell at .lists) k) (listBytes cell at update by k) a place b end)
       (room : place + bothFor cell at update by k ≤ length a) where
     wrote : Wrote a place (listBytes cell at update by k) b end
     wrote = put .yes may
@@ -115,9 +116,9 @@ module _ {cell : List ℕ} {at : ℕ} {update : List ℕ} {by : ℕ} {plan : Pla
   pub editable-kind : (i : ℕ) → i < 4 → rowOf (getD (plan .kinds) i 0) .list ≡ true
   editable-kind i here = for .lists .each i here
 
-  pub editable-allowed : (i : ℕ) → i < 4 → allowedAt (editOf (amendmentAt update by)) (objectAt cell at .lists) (getD (plan .kinds) i 0) ≡ true
+  pub editable-allowed : (i : ℕ) → i < 4 → allowedAt (editOf (amendmentAt update by)) (itemAt cell at .lists) (getD (plan .kinds) i 0) ≡ true
   editable-allowed i here =
-      allowed-in (editOf (amendmentAt update by)) (objectAt cell at .lists) (plan .kinds) (getD (plan .kinds) i 0)
+      allowed-in (editOf (amendmentAt update by)) (itemAt cell at .lists) (plan .kinds) (getD (plan .kinds) i 0)
       (member-at (plan .kinds) i (omega (arith, for .lists .four))) (rw (for .kinds-are) (able .allowed))
 
   few : (i : ℕ) → i < 4 → length (listBytes cell at update by (getD (plan .kinds) i 0)) ≤ 300000

@@ -21,30 +21,31 @@ use Rattle.entries.proofs.EntriesLaws.{each-entries}
 use Rattle.table.specs.Table.{first, VRID, FRID, FOID, tagOf, rowOf, table, asNumber}
 use Rattle.table.specs.Text.{bytes}
 use Rattle.layout.specs.Layout.{shapeOf}
-use Rattle.items.specs.Identity.{idAt, rcnmAt, rcidAt, primAt, objlAt, foidAt, versionAt, Featured}
+use Rattle.items.specs.Premises.{Featured}
+use Rattle.items.specs.Identity.{idAt, rcnmAt, rcidAt, primAt, objlAt, foidAt, versionAt}
 use Rattle.items.specs.Lists.{listAt, entriesAt}
 use Rattle.records.specs.Pieces.{Piece}
 use Rattle.records.specs.Written.{bodyOf, rowsFor, headBytes, recordBytes, sizeOf}
 use Rattle.records.proofs.WrittenLaws.{record-length}
-use Rattle.objects.specs.Object.{objectAt, listOf, grupAt, ofFeature, isFeature, piece, listPiece, listPieces, vectorKinds, featureKinds}
-use Rattle.objects.specs.Object.{vridBytes, fridBytes, vectorPieces, featurePieces, objectPieces}
-use Rattle.objects.proofs.BytesLaws.{num-bytes}
-use Rattle.objects.proofs.IdLaws.{vrid-long, frid-long}
+use Rattle.items.specs.Item.{listOf, grupAt, ofFeature, isFeature, itemAt}
+use Rattle.itemfields.specs.Fields.{piece, listPiece, listPieces, vectorKinds, featureKinds, vridBytes, fridBytes, vectorPieces, featurePieces, itemPieces}
+use Rattle.itemfields.proofs.BytesLaws.{num-bytes}
+use Rattle.itemfields.proofs.IdLaws.{vrid-long, frid-long}
 use Rattle.edits.specs.Lists.{listsEdited}
 use Rattle.edits.proofs.ListsLaws.{lists-each}
-use Rattle.writing.specs.Plain.{tagsOf}
-use Rattle.writing.specs.Joined.{fieldPiece, fieldPieces, sumOf, listRows}
-use Rattle.writing.proofs.RowLaws.{four-is}
-use Rattle.writing.proofs.PartLaws.{body-append}
+use Rattle.itemrows.specs.Plain.{tagsOf}
+use Rattle.itemrows.specs.Joined.{fieldPiece, fieldPieces, sumOf, listRows}
+use Rattle.itemrows.proofs.RowLaws.{four-is}
+use Rattle.joining.proofs.PartLaws.{body-append}
 use Rattle.writing.proofs.JoinedLaws.{lengths, rows-append, lists-rows, lists-sum}
-use Rattle.writing.proofs.PlanLaws.{Planned}
+use Rattle.itemrows.proofs.PlanLaws.{Planned}
 use Rattle.writing.proofs.FieldLaws.{join}
 use Rattle.writing.proofs.CopyLaws.{list-piece, byte-as}
 use Rattle.changes.specs.Change.{Amendment, amendmentAt, editOf}
 use Rattle.changes.specs.Amend.{kindsOf}
 use Rattle.changes.specs.Updated.{amended}
 use Rattle.amend.specs.Sides.{listBytes, Totaled}
-use Rattle.rebuild.specs.Record.{Editable, editedPieces, EditedPut, ListsPut, vectorHead, featureHead, versionBytes, idFront, foidBytes}
+use Rattle.raising.specs.Record.{Editable, editedPieces, EditedPut, ListsPut, vectorHead, featureHead, versionBytes, idFront, foidBytes}
 
 -- ---- bytes that stand
 has-join : {s : List ℕ} {i j : ℕ} (xs ys : List ℕ) → Has s i xs → Has s j ys → j ≡ i + length xs → Has s i (xs ++ ys)
@@ -126,13 +127,13 @@ none-flat [] each e = refl
 none-flat (x ∷ es) (each-more one rest) e = absurd (let z = ap length e in let some = one .some in omega (arith, length-append x (flatten es)))
 
 module _ (cell : List ℕ) (at : ℕ) (update : List ℕ) (by : ℕ) where
-  piece-same : (k : ℕ) → listPiece k (listsEdited (editOf (amendmentAt update by)) (objectAt cell at .lists) k) ≡ fieldPiece k (listBytes cell at update by k)
+  piece-same : (k : ℕ) → listPiece k (listsEdited (editOf (amendmentAt update by)) (itemAt cell at .lists) k) ≡ fieldPiece k (listBytes cell at update by k)
   piece-same k =
       let u = editOf (amendmentAt update by) in
-      list-piece k (listsEdited u (objectAt cell at .lists) k) (listBytes cell at update by k) refl
-      (none-flat (listsEdited u (objectAt cell at .lists) k) (lists-each u (objectAt cell at .lists) k (each-of cell at k) (each-of update by k)))
+      list-piece k (listsEdited u (itemAt cell at .lists) k) (listBytes cell at update by k) refl
+      (none-flat (listsEdited u (itemAt cell at .lists) k) (lists-each u (itemAt cell at .lists) k (each-of cell at k) (each-of update by k)))
 
-  pieces-same : (ks : List ℕ) → listPieces ks (listsEdited (editOf (amendmentAt update by)) (objectAt cell at .lists)) ≡ fieldPieces ks (listBytes cell at update by)
+  pieces-same : (ks : List ℕ) → listPieces ks (listsEdited (editOf (amendmentAt update by)) (itemAt cell at .lists)) ≡ fieldPieces ks (listBytes cell at update by)
   unfolding listPieces fieldPieces
   pieces-same [] = refl
   pieces-same (k ∷ ks) = rw (piece-same k, pieces-same ks)
@@ -180,14 +181,14 @@ module _ (s : List ℕ) (at : ℕ) (small : (i : ℕ) → byteAt s i < 256) wher
 
   -- ---- a vector
   module _ (a : Amendment) (room : idAt s at + 8 ≤ length s) where
-    vrid-is : vridBytes (amended a (objectAt s at)) ≡ take 5 (drop (idAt s at) s) ++ (bytesOf 2 (versionAt s at + 1) ++ (1 ∷ []))
+    vrid-is : vridBytes (amended a (itemAt s at)) ≡ take 5 (drop (idAt s at) s) ++ (bytesOf 2 (versionAt s at + 1) ++ (1 ∷ []))
     unfolding vridBytes amended
     vrid-is =
         sym (append-assoc (bytesOf 1 (rcnmAt s at)) (bytesOf 4 (rcidAt s at)) (bytesOf 2 (versionAt s at + 1) ++ (1 ∷ [])))
         ∙ ap (λ (l : List ℕ). l ++ (bytesOf 2 (versionAt s at + 1) ++ (1 ∷ []))) (five room)
 
     vectorFields : List Piece
-    vectorFields = piece first (bytesOf 2 0) ∷ piece VRID (vridBytes (amended a (objectAt s at))) ∷ []
+    vectorFields = piece first (bytesOf 2 0) ∷ piece VRID (vridBytes (amended a (itemAt s at))) ∷ []
 
     vector-body : bodyOf vectorFields ≡ idFront s at 5 (versionAt s at + 1)
     unfolding bodyOf vectorFields idFront versionBytes
@@ -199,11 +200,11 @@ module _ (s : List ℕ) (at : ℕ) (small : (i : ℕ) → byteAt s i < 256) wher
 
     vector-long : length (bodyOf vectorFields) ≡ 12
     unfolding bodyOf vectorFields bytesOf
-    vector-long = omega (arith, length-append (vridBytes (amended a (objectAt s at))) (30 ∷ []), vrid-long (amended a (objectAt s at)))
+    vector-long = omega (arith, length-append (vridBytes (amended a (itemAt s at))) (30 ∷ []), vrid-long (amended a (itemAt s at)))
 
     vector-rows : (808464433 ∷ 3 ∷ 0 ∷ []) ∷ (1448233284 ∷ 9 ∷ 3 ∷ []) ∷ [] ≡ rowsFor 0 vectorFields
     unfolding rowsFor vectorFields bytesOf tagOf rowOf table asNumber bytes
-    vector-rows = rw (vrid-long (amended a (objectAt s at)))
+    vector-rows = rw (vrid-long (amended a (itemAt s at)))
 
   -- ---- a feature
   module _ (a : Amendment) (of : Featured s at) (hundred : rcnmAt s at ≡ 100) where
@@ -211,7 +212,7 @@ module _ (s : List ℕ) (at : ℕ) (small : (i : ℕ) → byteAt s i < 256) wher
     unfolding ofFeature isFeature
     as-feature v = rw (eq-eqb (rcnmAt s at) 100 hundred)
 
-    frid-is : fridBytes (amended a (objectAt s at)) ≡ take 9 (drop (idAt s at) s) ++ (bytesOf 2 (versionAt s at + 1) ++ (1 ∷ []))
+    frid-is : fridBytes (amended a (itemAt s at)) ≡ take 9 (drop (idAt s at) s) ++ (bytesOf 2 (versionAt s at + 1) ++ (1 ∷ []))
     unfolding fridBytes amended
     frid-is =
         rw (as-feature (primAt s at), as-feature (grupAt s at), as-feature (objlAt s at))
@@ -225,14 +226,14 @@ module _ (s : List ℕ) (at : ℕ) (small : (i : ℕ) → byteAt s i < 256) wher
 
     featureFields : List Piece
     featureFields =
-        piece first (bytesOf 2 0) ∷ piece FRID (fridBytes (amended a (objectAt s at))) ∷ piece FOID (bytesOf 8 (ofFeature (rcnmAt s at) (foidAt s at))) ∷ []
+        piece first (bytesOf 2 0) ∷ piece FRID (fridBytes (amended a (itemAt s at))) ∷ piece FOID (bytesOf 8 (ofFeature (rcnmAt s at) (foidAt s at))) ∷ []
 
     feature-body : bodyOf featureFields ≡ idFront s at 9 (versionAt s at + 1) ++ foidBytes s at
     unfolding bodyOf featureFields idFront versionBytes
     feature-body =
         let lead = take 9 (drop (idAt s at) s) in
         let v = bytesOf 2 (versionAt s at + 1) in
-        let frid = fridBytes (amended a (objectAt s at)) in
+        let frid = fridBytes (amended a (itemAt s at)) in
         let back = bytesOf 8 (ofFeature (rcnmAt s at) (foidAt s at)) ++ (30 ∷ []) in
         ap (λ (l : List ℕ). bytesOf 2 0 ++ (30 ∷ l)) (sym (append-assoc frid (30 ∷ []) back))
         ∙ ap (λ (l : List ℕ). bytesOf 2 0 ++ (30 ∷ ((l ++ (30 ∷ [])) ++ back))) frid-is
@@ -244,12 +245,12 @@ module _ (s : List ℕ) (at : ℕ) (small : (i : ℕ) → byteAt s i < 256) wher
     feature-long : length (bodyOf featureFields) ≡ 25
     unfolding bodyOf featureFields bytesOf
     feature-long =
-        let frid = fridBytes (amended a (objectAt s at)) in
-        omega (arith, length-append frid (30 ∷ (bytesOf 8 (ofFeature (rcnmAt s at) (foidAt s at)) ++ (30 ∷ []))), frid-long (amended a (objectAt s at)))
+        let frid = fridBytes (amended a (itemAt s at)) in
+        omega (arith, length-append frid (30 ∷ (bytesOf 8 (ofFeature (rcnmAt s at) (foidAt s at)) ++ (30 ∷ []))), frid-long (amended a (itemAt s at)))
 
     feature-rows : (808464433 ∷ 3 ∷ 0 ∷ []) ∷ (1179797828 ∷ 13 ∷ 3 ∷ []) ∷ (1179601220 ∷ 9 ∷ 16 ∷ []) ∷ [] ≡ rowsFor 0 featureFields
     unfolding rowsFor featureFields bytesOf tagOf rowOf table asNumber bytes
-    feature-rows = rw (frid-long (amended a (objectAt s at)))
+    feature-rows = rw (frid-long (amended a (itemAt s at)))
 
 vector-kinds : (n : ℕ) → (n ≡ 100 → ⊥) → vectorKinds ≡ kindsOf n
 unfolding kindsOf isFeature
@@ -262,12 +263,12 @@ feature-kinds n e = rw e
 module _ {cell : List ℕ} {at : ℕ} {update : List ℕ} {by : ℕ} (able : Editable cell at update by) (small : (i : ℕ) → byteAt cell i < 256) where
   vector-are : (rcnmAt cell at ≡ 100 → ⊥) → editedPieces cell at update by
       ≡ vectorFields cell at small (amendmentAt update by) (able .paired .known .long) ++ fieldPieces vectorKinds (listBytes cell at update by)
-  unfolding objectPieces isFeature vectorPieces amended vectorFields
+  unfolding itemPieces isFeature vectorPieces amended vectorFields
   vector-are ne = rw (ne-eqb (rcnmAt cell at) 100 ne, pieces-same cell at update by vectorKinds)
 
   feature-are : (hundred : rcnmAt cell at ≡ 100) (of : Featured cell at) → editedPieces cell at update by
       ≡ featureFields cell at small (amendmentAt update by) of hundred ++ fieldPieces featureKinds (listBytes cell at update by)
-  unfolding objectPieces isFeature featurePieces amended featureFields
+  unfolding itemPieces isFeature featurePieces amended featureFields
   feature-are hundred of = rw (eq-eqb (rcnmAt cell at) 100 hundred, pieces-same cell at update by featureKinds)
 
 -- ---- the record, r being RCNM as it was read

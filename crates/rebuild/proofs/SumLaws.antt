@@ -14,27 +14,28 @@ use borrow.Author.Tests.{eq-eqb}
 use Rattle.octets.proofs.Cases.{eq-or-ne, true-or-false}
 use Rattle.octets.proofs.Tests.{both}
 use Rattle.iso8211.specs.Record.{endOf}
-use Rattle.iso8211.specs.Field.{countAt, fieldAt, RecordIn}
+use Rattle.iso8211.specs.Field.{countAt, fieldAt}
+use Rattle.iso8211.specs.Premises.{RecordIn}
 use Rattle.entries.proofs.EntriesLaws.{flatten-append}
 use Rattle.table.specs.Table.{rowOf}
 use Rattle.attributes.specs.Attributes.{labelOf, isRemoval}
 use Rattle.layout.specs.Record.{kindAt}
-use Rattle.chart.specs.Value.{isAttributes}
+use Rattle.fieldvalue.specs.Value.{isAttributes}
 use Rattle.items.specs.Lists.{partAt, joinFrom, listAt}
 use Rattle.items.proofs.ListsLaws.{part-yes, part-no}
-use Rattle.objects.specs.Object.{objectAt, isFeature, listOf}
-use Rattle.objects.proofs.BytesLaws.{list-bytes}
+use Rattle.items.specs.Item.{isFeature, listOf, itemAt}
+use Rattle.itemfields.proofs.BytesLaws.{list-bytes}
 use Rattle.edits.specs.Control.{Control, gone, edited, editedBy}
-use Rattle.edits.specs.AttributeEdit.{named, apart}
-use Rattle.edits.specs.OnePass.{worked, fresh, onePass}
+use Rattle.edits.specs.AttributeEdit.{named}
+use Rattle.edits.specs.OnePass.{apart, worked, fresh, onePass}
 use Rattle.edits.specs.Lists.{listEdited, controlOf, listsEdited, allowedAt}
-use Rattle.splice.proofs.OnceLaws.{one-pass-bytes}
-use Rattle.writing.specs.Joined.{bytesFor, sumBy}
-use Rattle.writing.proofs.RowLaws.{bytes-no, bytes-some}
+use Rattle.labelled.proofs.OnceLaws.{one-pass-bytes}
+use Rattle.itemrows.specs.Joined.{bytesFor, sumBy}
+use Rattle.itemrows.proofs.RowLaws.{bytes-no, bytes-some}
 use Rattle.changes.specs.Change.{amendmentAt, editOf}
 use Rattle.changes.specs.Amend.{kindsOf}
 use Rattle.amend.specs.Sides.{Sides, listBytes}
-use Rattle.rebuild.specs.Record.{bothFor, Summed}
+use Rattle.raising.specs.Record.{bothFor, Summed}
 use Rattle.amend.proofs.EditLaws.{held-apart, pass-is}
 
 -- ---- a list with its 1E
@@ -174,7 +175,7 @@ pass-bound held new once =
     omega (arith, one-pass-bytes held new once)
 
 module _ {cell : List ℕ} {at : ℕ} {update : List ℕ} {by : ℕ} (sides : Sides cell at update by) (k : ℕ) (list : rowOf k .list ≡ true)
-    (may : allowedAt (editOf (amendmentAt update by)) (objectAt cell at .lists) k ≡ true) where
+    (may : allowedAt (editOf (amendmentAt update by)) (itemAt cell at .lists) k ≡ true) where
   result-bound : length (listBytes cell at update by k) ≤ length (flatten (listOf cell at k)) + length (flatten (listOf update by k))
   unfolding listsEdited
   result-bound =

@@ -5,20 +5,18 @@ ghost use mathlib.Core.Bool.{true};
 ghost use mathlib.Core.Path.{_≡_};
 ghost use lib.ListN.{length};
 ghost use Rattle.octets.specs.Area.{Wrote};
-ghost use Rattle.iso8211.specs.Field.{HeadOf};
+ghost use Rattle.iso8211.specs.Premises.{HeadOf};
 ghost use Rattle.table.specs.Table.{rowOf};
 ghost use Rattle.items.specs.Identity.{rcnmAt};
 ghost use Rattle.records.specs.Written.{bodyOf};
-ghost use Rattle.objects.specs.Object.{objectAt};
+ghost use Rattle.items.specs.Item.{itemAt};
 ghost use Rattle.edits.specs.Lists.{allowedAt};
-ghost use Rattle.writing.specs.Joined.{fieldPiece};
+ghost use Rattle.itemrows.specs.Joined.{fieldPiece};
 ghost use Rattle.changes.specs.Amend.{kindsOf};
 ghost use Rattle.changes.specs.Change.{amendmentAt, editOf};
 ghost use Rattle.amend.specs.Sides.{Sides, listBytes, Areas};
 ghost use Rattle.amend.specs.Pairs.{PlanFor};
-ghost use Rattle.rebuild.specs.Record.{bothFor, Editable, EditedPut, ListsPut};
-use crate::heading::put_feature;
-use crate::heading::put_vector;
+ghost use Rattle.raising.specs.Record.{bothFor, Editable, EditedPut, ListsPut};
 use amend::lists::put_kind;
 use amend::plan::Plan;
 use amend::plan::plan_of;
@@ -26,6 +24,8 @@ use iso8211::field::Head;
 use iso8211::field::head_of;
 use items::identity::rcnm_of;
 use octets::number::put1;
+use raising::heading::put_feature;
+use raising::heading::put_vector;
 
 // List k edited, which it may be, and its 1E, from `place` on; an empty list as nothing.
 fn put_edited_field(
@@ -43,7 +43,7 @@ fn put_edited_field(
     place: usize,
 ) -> usize
     requires { ⌜ Sides (now cell) at (now update) by × HeadOf (now cell) at hc × HeadOf (now update) by hu × PlanFor (now cell) at (now update) by plan
-        × (rowOf k .list ≡ true) × (allowedAt (editOf (amendmentAt (now update) by)) (objectAt (now cell) at .lists) k ≡ true)
+        × (rowOf k .list ≡ true) × (allowedAt (editOf (amendmentAt (now update) by)) (itemAt (now cell) at .lists) k ≡ true)
         × Areas (now join) (now table) × (place + bothFor (now cell) at (now update) by k ≤ length (now room)) ⌝ }
     ensures { λ r. ⌜ Wrote (now (room .entry)) place (bodyOf (fieldPiece k (listBytes (now (cell .entry)) at (now (update .entry)) by k))) (now (room .exit)) r
         × (place ≤ r) × (r ≤ place + bothFor (now (cell .entry)) at (now (update .entry)) by k) × Areas (now (join .exit)) (now (table .exit)) ⌝ }

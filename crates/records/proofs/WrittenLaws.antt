@@ -1,5 +1,5 @@
 -- What is written as a record is framed, and has the fields that it was written from. Assumes nothing.
-use Prim.Native.Nat.{ℕ, zero, suc, _+_, _-_, _*_, _/_, _%_, _^_, _≤_, _<_}
+use Prim.Native.Nat.{ℕ, suc, _+_, _-_, _*_, _/_, _%_, _^_, _≤_, _<_}
 use mathlib.Core.Bool.{true, false}
 use mathlib.Core.List.{List, [], _∷_, _++_, append-assoc}
 use mathlib.Core.Path.{_≡_, refl, sym, ap, _∙_}
@@ -19,7 +19,8 @@ use Rattle.iso8211.specs.Directory.{tagAt, rowAt, rows, len, position, rowWidth
 use Rattle.iso8211.specs.Record.{fieldGood, inRow, bodyGood, recordGood, endOf}
 use Rattle.iso8211.specs.Field.{countAt, directoryAt, fieldAt, Headed, FieldsIn}
 use Rattle.iso8211.proofs.Promise.{fields-row}
-use Rattle.records.specs.Pieces.{Piece, pieceOf, piecesFrom, piecesAt}
+use Rattle.records.specs.Pieces.{Piece}
+use Rattle.records.specs.Premises.{pieceOf, piecesFrom, piecesAt}
 use Rattle.records.specs.Written.{tagBytes, pieceLength, bodyOf, rowsFor, longest, farthest, lengthSize, positionSize, rowBytes, rowsBytes, baseFor, leaderOf, headOver}
 use Rattle.records.specs.Written.{headBytes, recordBytes, sizeOf, Fits}
 
@@ -226,7 +227,8 @@ head-read fs {s} {at} fit h =
     let row : 1 * w ≤ n * w = mul-le-mul-right w some in
     let in-head = has-left head body h in
     let led = leader-read size base l p (omega arith) (has-left (leaderOf size base l p) (rowsBytes l p es ++ (30 ∷ [])) in-head) in
-    let rest : Has s (at + 24) (rowsBytes l p es ++ (30 ∷ [])) = has-at (at + 24) (rw (leader-length size base l p)) (has-right (leaderOf size base l p) (rowsBytes l p es ++ (30 ∷ [])) in-head) in
+    let rest : Has s (at + 24) (rowsBytes l p es ++ (30 ∷ [])) = has-at (at + 24) (rw (leader-length size base l p))
+    (has-right (leaderOf size base l p) (rowsBytes l p es ++ (30 ∷ [])) in-head) in
     let times : base - 25 ≡ n * w = omega arith in
     record {
       led = led;

@@ -1,5 +1,4 @@
 -- The laws of `reissue`.
-pub mod FrontLaws
 pub mod TallyLaws
 pub mod PlanLaws
 pub mod WordLaws

@@ -8,31 +8,33 @@ use lib.ListN.{length, length-append}
 use Rattle.octets.specs.Area.{Wrote}
 use Rattle.octets.proofs.AreaLaws.{wrote-join, wrote-as, wrote-length}
 use Rattle.iso8211.specs.Record.{endOf}
-use Rattle.iso8211.specs.Field.{FramedAt}
+use Rattle.iso8211.specs.Premises.{FramedAt}
 use Rattle.iso8211.specs.File.{recordAt}
 use Rattle.iso8211.proofs.Promise.{at-start, at-on}
 use Rattle.words.specs.Words.{wordsIn}
 use Rattle.words.proofs.WordsLaws.{words-length}
 use Rattle.layout.specs.Record.{contentAt}
-use Rattle.chart.specs.Read.{aallAt, nallAt}
-use Rattle.items.specs.Identity.{placeOf}
-use Rattle.names.specs.declared.counts.Tally.{Tally}
+use Rattle.items.specs.Word.{wordOffset}
+use Rattle.counted.specs.declared.counts.Tally.{Tally}
 use Rattle.records.specs.Written.{recordBytes, recordsBytes, sizeOf}
 use Rattle.records.proofs.WrittenLaws.{record-length}
-use Rattle.objects.specs.Object.{objectAt, objectPieces}
+use Rattle.items.specs.Item.{itemAt}
+use Rattle.itemfields.specs.Fields.{itemPieces}
 use Rattle.header.specs.First.{firstRecord}
 use Rattle.header.specs.Dsid.{dsidOf, dsidBytes}
 use Rattle.header.specs.Dssi.{dssiBytes}
 use Rattle.header.proofs.FirstLaws.{first-length}
 use Rattle.header.proofs.DssiLaws.{dssi-length}
 use Rattle.held.specs.Chart.{headerOf}
-use Rattle.held.specs.Held.{tallyIn, dsidPieces, dspmPieces, objectsPieces, recordsOf, heldOf}
+use Rattle.held.specs.Held.{tallyIn, dsidPieces, dspmPieces, itemsPieces, recordsOf, heldOf}
 use Rattle.held.specs.Limits.{longestOf, fits}
-use Rattle.writing.specs.All.{objectsAt, writtenFrom, mostOf, AllSized}
+use Rattle.names.specs.NameWords.{itemsAt}
+use Rattle.writing.specs.All.{writtenFrom, mostOf, AllSized}
 use Rattle.writing.specs.declared.all.Sizes.{Sizes}
-use Rattle.reissue.specs.Front.{dsidFields, dspmFields, DsidIn, DspmIn, DsidSized}
+use Rattle.fronts.specs.Front.{dsidFields, dspmFields, DsidIn, DspmIn, DsidSized}
 use Rattle.reissue.specs.Plan.{chartFrom, Writing, withinLimits, Planned, frontBytes}
 use Rattle.reissue.proofs.TallyLaws.{objects-length}
+use Rattle.layout.specs.General.{aallAt, nallAt}
 
 -- ---- the records of the chart, over the file
 module _ (s ws : List ℕ) where
@@ -46,9 +48,9 @@ module _ (s ws : List ℕ) where
   own = dsidBytes (dsidOf (contentAt s a 1))
 
   abbrev counts : List ℕ
-  counts = dssiBytes (aallAt s a) (nallAt s a) (tallyIn (objectsAt s ws))
+  counts = dssiBytes (aallAt s a) (nallAt s a) (tallyIn (itemsAt s ws))
 
-  records-are : recordsOf (chartFrom s ws) ≡ dsidFields own counts ∷ dspmFields (contentAt s b 1) ∷ objectsPieces 3 (objectsAt s ws)
+  records-are : recordsOf (chartFrom s ws) ≡ dsidFields own counts ∷ dspmFields (contentAt s b 1) ∷ itemsPieces 3 (itemsAt s ws)
   unfolding recordsOf dsidPieces dspmPieces headerOf
   records-are = refl
 
@@ -56,7 +58,7 @@ module _ (s ws : List ℕ) where
   unfolding recordsBytes writtenFrom
   bytes-are = ap recordsBytes records-are
 
-  held-parts : heldOf (chartFrom s ws) ≡ frontBytes s a b (tallyIn (objectsAt s ws)) ++ writtenFrom 3 s ws
+  held-parts : heldOf (chartFrom s ws) ≡ frontBytes s a b (tallyIn (itemsAt s ws)) ++ writtenFrom 3 s ws
   unfolding frontBytes
   held-parts =
       rw bytes-are
@@ -73,20 +75,20 @@ front-length s a b t =
     rw (length-append firstRecord, length-append (recordBytes d), record-length d, record-length p, first-length) (omega arith)
 
 -- ---- the plan
-longest-words : (n : ℕ) (s ws : List ℕ) → longestOf (objectsPieces n (objectsAt s ws)) ≡ mostOf n s ws
-unfolding longestOf objectsPieces objectsAt mostOf
+longest-words : (n : ℕ) (s ws : List ℕ) → longestOf (itemsPieces n (itemsAt s ws)) ≡ mostOf n s ws
+unfolding longestOf itemsPieces itemsAt mostOf
 longest-words n s [] = refl
-longest-words n s (w ∷ ws) = ap (max (sizeOf (objectPieces n (objectAt s (placeOf w))))) (longest-words (n + 1) s ws)
+longest-words n s (w ∷ ws) = ap (max (sizeOf (itemPieces n (itemAt s (wordOffset w))))) (longest-words (n + 1) s ws)
 
 module _ (s ws : List ℕ) (d p : ℕ) (sizes : Sizes) (first : DsidSized s (recordAt s 1) d) (second : p ≡ sizeOf (dspmFields (contentAt s (recordAt s 2) 1)))
     (rest : AllSized s ws sizes) where
   dsid-is : d ≡ sizeOf (dsidFields (own s ws) (counts s ws))
-  dsid-is = first .is (counts s ws) (dssi-length (aallAt s (recordAt s 1)) (nallAt s (recordAt s 1)) (tallyIn (objectsAt s ws)))
+  dsid-is = first .is (counts s ws) (dssi-length (aallAt s (recordAt s 1)) (nallAt s (recordAt s 1)) (tallyIn (itemsAt s ws)))
 
   total-is : length (heldOf (chartFrom s ws)) ≡ 1561 + d + p + sizes .sum
   total-is =
-      ap length (held-parts s ws) ∙ length-append (frontBytes s (recordAt s 1) (recordAt s 2) (tallyIn (objectsAt s ws))) (writtenFrom 3 s ws)
-      ∙ rw (front-length s (recordAt s 1) (recordAt s 2) (tallyIn (objectsAt s ws)), ← dsid-is, ← second, ← (rest .sum-is))
+      ap length (held-parts s ws) ∙ length-append (frontBytes s (recordAt s 1) (recordAt s 2) (tallyIn (itemsAt s ws))) (writtenFrom 3 s ws)
+      ∙ rw (front-length s (recordAt s 1) (recordAt s 2) (tallyIn (itemsAt s ws)), ← dsid-is, ← second, ← (rest .sum-is))
 
   longest-is : longestOf (recordsOf (chartFrom s ws)) ≡ max (max d p) (sizes .most)
   unfolding longestOf
@@ -99,7 +101,7 @@ pub planned : (s work : List ℕ) (m d p x y total : ℕ) (f : Bool) (sizes : Si
 unfolding withinLimits fits
 planned s work m d p x y total f sizes first second rest ex ey et is =
     let ws = wordsIn work 0 m in
-    let few : length (objectsAt s ws) ≡ m = objects-length s ws ∙ words-length work 0 m in
+    let few : length (itemsAt s ws) ≡ m = objects-length s ws ∙ words-length work 0 m in
     let t = total-is s ws d p sizes first second rest in
     let l = longest-is s ws d p sizes first second rest in
     record { fits-is = is ∙ rw (few, l, t, ← et, ← ex, ← ey); total-is = et ∙ sym t }
@@ -150,7 +152,7 @@ module _ (s : List ℕ) (first second : ℕ) (t : Tally) (a : List ℕ) (room : 
       front-put y = wrote-join w (wrote-join x y)
 
 -- ---- the whole chart written
-module _ (s work : List ℕ) (m e f : ℕ) (t : Tally) (is : e ≡ endOf s 0) (next : f ≡ endOf s e) (counted : t ≡ tallyIn (objectsAt s (wordsIn work 0 m))) where
+module _ (s work : List ℕ) (m e f : ℕ) (t : Tally) (is : e ≡ endOf s 0) (next : f ≡ endOf s e) (counted : t ≡ tallyIn (itemsAt s (wordsIn work 0 m))) where
   chart-parts : heldOf (chartFrom s (wordsIn work 0 m)) ≡ frontBytes s e f t ++ writtenFrom 3 s (wordsIn work 0 m)
   chart-parts =
       let one = at-on s 0 0 e (at-start s) is in

@@ -5,13 +5,13 @@ use mathlib.Core.List.{List, _++_}
 use mathlib.Core.Path.{_≡_}
 use lib.ListN.{length}
 use lib.Dec.{leb}
-use Rattle.iso8211.specs.Field.{FramedAt}
+use Rattle.answers.specs.Codes.{mostBytes, mostRecords, longestRecord}
+use Rattle.iso8211.specs.Premises.{FramedAt}
 use Rattle.iso8211.specs.File.{recordAt}
 use Rattle.words.specs.Words.{wordsIn}
 use Rattle.layout.specs.Record.{contentAt}
-use Rattle.chart.specs.Read.{aallAt, nallAt}
-use Rattle.names.specs.Held.{AllStand}
-use Rattle.names.specs.declared.counts.Tally.{Tally}
+use Rattle.names.specs.Premises.{AllStand}
+use Rattle.counted.specs.declared.counts.Tally.{Tally}
 use Rattle.records.specs.Written.{recordBytes}
 use Rattle.header.specs.First.{firstRecord}
 use Rattle.header.specs.Dsid.{dsidOf, dsidBytes}
@@ -19,13 +19,15 @@ use Rattle.header.specs.Dssi.{dssiBytes}
 use Rattle.held.specs.Chart.{Chart, headerOf, chartOf}
 use Rattle.held.specs.Held.{heldOf}
 use Rattle.held.specs.Limits.{fits}
-use Rattle.writing.specs.All.{objectsAt, Words}
-use Rattle.reissue.specs.Front.{dsidFields, dspmFields, DsidIn, DspmIn}
+use Rattle.names.specs.NameWords.{itemsAt}
+use Rattle.writing.specs.All.{Words}
+use Rattle.fronts.specs.Front.{dsidFields, dspmFields, DsidIn, DspmIn}
 use Rattle.reissue.specs.declared.plan.Plan.{Plan}
+use Rattle.layout.specs.General.{aallAt, nallAt}
 
 -- the chart of a cell whose items in held order have these words
 abbrev pub chartFrom : List ℕ → List ℕ → Chart
-chartFrom s ws = record { header = headerOf s; objects = objectsAt s ws }
+chartFrom s ws = record { header = headerOf s; items = itemsAt s ws }
 
 -- a readable cell with the words of m items, in held order, in the work area
 pub record Writing (s : List ℕ) (m : ℕ) (work : List ℕ) : Type 0 where
@@ -39,12 +41,12 @@ pub record Writing (s : List ℕ) (m : ℕ) (work : List ℕ) : Type 0 where
 pub record Ready (s : List ℕ) (n : ℕ) (work : List ℕ) : Type 0 where
   pub three : 3 ≤ n
   pub same : chartFrom s (wordsIn work 0 (n - 3)) ≡ chartOf s n
-  pub count : length (chartOf s n .objects) ≡ n - 3
+  pub count : length (chartOf s n .items) ≡ n - 3
   pub writing : n ≤ 65536 → Writing s (n - 3) work
 
 -- "Limits: 99,999 bytes a record, 65,536 records with record 0, 5,242,880 bytes", by numbers
 unfoldable pub withinLimits : ℕ → ℕ → ℕ → Bool
-withinLimits n most total = leb n 65536 && (leb most 99999 && leb total 5242880)
+withinLimits n most total = leb n mostRecords && (leb most longestRecord && leb total mostBytes)
 
 pub record Planned (c : Chart) (p : Plan) : Type 0 where
   pub fits-is : p .fits ≡ fits c

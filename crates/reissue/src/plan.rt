@@ -3,8 +3,11 @@ ghost use Prim.Native.Nat.{_+_};
 ghost use mathlib.Core.Path.{_≡_};
 ghost use Rattle.words.specs.Words.{wordsIn};
 ghost use Rattle.reissue.specs.Plan.{chartFrom, Writing, withinLimits, Planned};
-use crate::front::dsid_total;
-use crate::front::dspm_total;
+use answers::codes::LONGEST_RECORD;
+use answers::codes::MOST_BYTES;
+use answers::codes::MOST_RECORDS;
+use fronts::front::dsid_total;
+use fronts::front::dspm_total;
 use iso8211::field::record_end;
 use records::head::larger;
 use writing::all::measure;
@@ -19,13 +22,13 @@ pub struct Plan {
 pub fn within_limits(n: usize, most: u32, total: usize) -> bool
     ensures { λ r. ⌜ r ≡ withinLimits n most total ⌝ }
 {
-    if 65536 < n {
+    if MOST_RECORDS < n {
         return false;
     }
-    if 99999 < most {
+    if LONGEST_RECORD < most {
         return false;
     }
-    total <= 5242880
+    total <= MOST_BYTES
 }
 
 // The plan of a cell of m items.

@@ -4,14 +4,14 @@ ghost use lib.ListN.{length};
 ghost use Rattle.octets.specs.Area.{Wrote};
 ghost use Rattle.words.specs.Words.{wordsIn};
 ghost use Rattle.held.specs.Held.{heldOf};
-ghost use Rattle.reissue.specs.Front.{DsidIn, DspmIn};
+ghost use Rattle.fronts.specs.Front.{DsidIn, DspmIn};
 ghost use Rattle.reissue.specs.Plan.{chartFrom, Writing, frontBytes};
-use crate::front::put_dsid_record;
-use crate::front::put_dspm_record;
 use crate::tally::tally_words;
+use counted::counts::Tally;
+use fronts::front::put_dsid_record;
+use fronts::front::put_dspm_record;
 use header::first::put_first;
 use iso8211::field::record_end;
-use names::counts::Tally;
 use writing::all::put_items;
 
 // Records 0 to 2 with these counts, DSID being at `first`, DSPM at `second`.

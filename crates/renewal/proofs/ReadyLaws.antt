@@ -5,9 +5,9 @@ use mathlib.Core.Path.{_≡_, refl}
 use native.Mathlib.Omega.{arith}
 use lib.ListN.{length}
 use Rattle.merge.specs.Places.{placesOf}
-use Rattle.result.specs.Result.{objectOf}
-use Rattle.result.specs.Able.{Laid}
-use Rattle.renewal.specs.Items.{objectsIn, Items}
+use Rattle.resultitems.specs.Result.{objectOf}
+use Rattle.resultitems.specs.Able.{Laid}
+use Rattle.resultitems.specs.Items.{objectsIn, Items}
 
 -- what the items stand for
 pub objects-are : (cell update work : List ℕ) (end count edits : ℕ) → objectsIn cell update work end count edits ≡ map (objectOf cell update) (placesOf work end count edits)

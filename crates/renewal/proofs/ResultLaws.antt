@@ -9,39 +9,39 @@ use Rattle.octets.specs.Area.{Wrote}
 use Rattle.octets.proofs.AreaLaws.{wrote-join, wrote-as, wrote-length}
 use Rattle.iso8211.specs.File.{recordAt}
 use Rattle.layout.specs.Record.{contentAt}
-use Rattle.names.specs.declared.counts.Tally.{Tally}
+use Rattle.counted.specs.declared.counts.Tally.{Tally}
 use Rattle.records.specs.Pieces.{Piece}
 use Rattle.records.specs.Written.{recordBytes, recordsBytes}
-use Rattle.objects.specs.Object.{Object}
+use Rattle.items.specs.Item.{Item}
 use Rattle.header.specs.First.{firstRecord}
 use Rattle.held.specs.Chart.{headerOf}
-use Rattle.held.specs.Held.{tallyIn, dsidPieces, dspmPieces, objectsPieces, recordsOf, heldOf}
+use Rattle.held.specs.Held.{tallyIn, dsidPieces, dspmPieces, itemsPieces, recordsOf, heldOf}
 use Rattle.held.specs.Limits.{longestOf, fits}
 use Rattle.writing.specs.declared.all.Sizes.{Sizes}
-use Rattle.reissue.specs.Front.{dsidFields, dspmFields, revisedIn, dssiIn}
+use Rattle.fronts.specs.Front.{dsidFields, dspmFields, revisedIn, dssiIn}
 use Rattle.reissue.specs.Plan.{withinLimits, Planned}
 use Rattle.changes.specs.Change.{changeOf}
 use Rattle.changes.specs.Updated.{updatedHeader}
-use Rattle.renewal.specs.Items.{objectsIn, writtenBy, mostBy, AllSized}
-use Rattle.renewal.specs.Front.{Found, frontBytes, FrontSized}
+use Rattle.resultitems.specs.Items.{objectsIn, writtenBy, mostBy, AllSized}
+use Rattle.revisedfront.specs.Front.{Found, frontBytes, FrontSized}
 use Rattle.renewal.specs.Renewed.{revisedHeader, renewed, frontOf}
-use Rattle.renewal.specs.declared.front.Fronts.{Fronts}
-use Rattle.renewal.proofs.AllLaws.{objects-length}
+use Rattle.revisedfront.specs.declared.front.Fronts.{Fronts}
+use Rattle.resultitems.proofs.AllLaws.{objects-length}
 
 -- ---- the result is that of `changes`, however many records the update has
-pub renewed-is : (cell update : List ℕ) (m : ℕ) (os : List Object) → renewed cell update os ≡ record { header = updatedHeader (headerOf cell) (changeOf update m); objects = os }
+pub renewed-is : (cell update : List ℕ) (m : ℕ) (os : List Item) → renewed cell update os ≡ record { header = updatedHeader (headerOf cell) (changeOf update m); items = os }
 unfolding revisedHeader updatedHeader changeOf
 renewed-is cell update m os = refl
 
 -- ---- its records, over the files
-module _ (cell update : List ℕ) (os : List Object) where
+module _ (cell update : List ℕ) (os : List Item) where
   abbrev dsid : List Piece
   dsid = dsidFields (revisedIn cell (recordAt cell 1) update (recordAt update 1)) (dssiIn cell (recordAt cell 1) (tallyIn os))
 
   abbrev dspm : List Piece
   dspm = dspmFields (contentAt cell (recordAt cell 2) 1)
 
-  records-are : recordsOf (renewed cell update os) ≡ dsid ∷ dspm ∷ objectsPieces 3 os
+  records-are : recordsOf (renewed cell update os) ≡ dsid ∷ dspm ∷ itemsPieces 3 os
   unfolding recordsOf dsidPieces dspmPieces revisedHeader headerOf
   records-are = refl
 
@@ -85,11 +85,11 @@ result-told cell update work end count edits most total fit front items first re
     plan-told cell update (objectsIn cell update work end count edits) first rest count most total fit (objects-length cell update work end count edits) em et told
 
 -- ---- records 0 to 2, with the counts that were taken
-front-as : {cell update : List ℕ} {f : Fronts} → Found cell update f → (os : List Object) (t : Tally) → t ≡ tallyIn os → frontBytes cell update f t ≡ frontOf cell update os
+front-as : {cell update : List ℕ} {f : Fronts} → Found cell update f → (os : List Item) (t : Tally) → t ≡ tallyIn os → frontBytes cell update f t ≡ frontOf cell update os
 unfolding frontOf
 front-as found os t counted = rw (counted, found .is)
 
-module _ {cell update : List ℕ} {f : Fronts} (found : Found cell update f) (os : List Object) (t : Tally) (counted : t ≡ tallyIn os) where
+module _ {cell update : List ℕ} {f : Fronts} (found : Found cell update f) (os : List Item) (t : Tally) (counted : t ≡ tallyIn os) where
   pub fore-room : (n : ℕ) → length (frontOf cell update os) ≤ n → length (frontBytes cell update f t) ≤ n
   fore-room n h = rw (front-as found os t counted) h
 
@@ -97,7 +97,7 @@ module _ {cell update : List ℕ} {f : Fronts} (found : Found cell update f) (os
   fore-put w = wrote-as (frontOf cell update os) (front-as found os t counted) w
 
 -- ---- then the items
-module _ (cell update : List ℕ) (os : List Object) where
+module _ (cell update : List ℕ) (os : List Item) where
   pub front-room : (n : ℕ) → length (heldOf (renewed cell update os)) ≤ n → length (frontOf cell update os) ≤ n
   front-room n h = omega (arith, held-length cell update os)
 

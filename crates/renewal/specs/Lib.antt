@@ -1,5 +1,2 @@
 -- The notions of `renewal`: what its code asks and answers. What is to be believed stands in `held` and `changes`.
-pub mod Items
-pub mod Counts
-pub mod Front
 pub mod Renewed

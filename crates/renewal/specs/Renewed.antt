@@ -4,12 +4,12 @@ use Prim.Native.Nat.{ℕ}
 use mathlib.Core.List.{List}
 use Rattle.iso8211.specs.File.{recordAt}
 use Rattle.layout.specs.Record.{contentAt}
-use Rattle.objects.specs.Object.{Object}
+use Rattle.items.specs.Item.{Item}
 use Rattle.header.specs.Dsid.{dsidOf, revised}
 use Rattle.held.specs.Chart.{Header, headerOf, Chart}
 use Rattle.held.specs.Held.{tallyIn}
-use Rattle.renewal.specs.Items.{Items}
-use Rattle.renewal.specs.Front.{Fronted, frontsOf, frontBytes}
+use Rattle.resultitems.specs.Items.{Items}
+use Rattle.revisedfront.specs.Front.{Fronted, frontsOf, frontBytes}
 
 -- the cell's header, its DSID revised by that of the update
 unfoldable pub revisedHeader : List ℕ → List ℕ → Header
@@ -21,11 +21,11 @@ revisedHeader cell update = record {
 }
 
 -- the result of these objects
-abbrev pub renewed : List ℕ → List ℕ → List Object → Chart
-renewed cell update os = record { header = revisedHeader cell update; objects = os }
+abbrev pub renewed : List ℕ → List ℕ → List Item → Chart
+renewed cell update os = record { header = revisedHeader cell update; items = os }
 
 -- its records 0 to 2, with its true counts
-unfoldable pub frontOf : List ℕ → List ℕ → List Object → List ℕ
+unfoldable pub frontOf : List ℕ → List ℕ → List Item → List ℕ
 frontOf cell update os = frontBytes cell update (frontsOf cell update) (tallyIn os)
 
 -- a cell and an update whose result can be written: its items stand in the work area

@@ -2,8 +2,8 @@
 ghost use Prim.Native.Nat.{_+_, _≤_};
 ghost use lib.ListN.{length};
 ghost use Rattle.octets.specs.Area.{Wrote};
-ghost use Rattle.result.specs.Able.{Rooms};
-ghost use Rattle.renewal.specs.Items.{Items, AllSized, objectsIn, writtenBy};
+ghost use Rattle.resultitems.specs.Able.{Rooms};
+ghost use Rattle.resultitems.specs.Items.{Items, AllSized, objectsIn, writtenBy};
 use crate::item::put_at;
 use crate::item::size_at;
 use merge::walk::item_at;

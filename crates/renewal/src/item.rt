@@ -4,12 +4,13 @@ ghost use Prim.Native.Nat.{_+_, _≤_};
 ghost use lib.ListN.{length};
 ghost use Rattle.octets.specs.Area.{Wrote};
 ghost use Rattle.records.specs.Written.{recordBytes, sizeOf};
-ghost use Rattle.objects.specs.Object.{objectPieces};
-ghost use Rattle.result.specs.Result.{objectOf};
-ghost use Rattle.result.specs.Able.{Able, Rooms};
-ghost use Rattle.renewal.specs.Items.{ObjectSized};
+ghost use Rattle.itemfields.specs.Fields.{itemPieces};
+ghost use Rattle.resultitems.specs.Result.{objectOf};
+ghost use Rattle.resultitems.specs.Able.{Able, Rooms};
+ghost use Rattle.resultitems.specs.Items.{ObjectSized};
+use items::word;
 use merge::At;
-use result::item::edited;
+use resultitems::item::edited;
 use writing::item::put_item;
 use writing::item::size_of;
 
@@ -30,8 +31,8 @@ pub fn size_at(
         let built = edited(cell, update, a, join, table, room);
         return size_of(room, built);
     }
-    let at = (a.word % 8388608) as usize;
-    if a.word / 8388608 % 2 == 1 {
+    let at = (a.word % word::MARK_WEIGHT) as usize;
+    if a.word / word::MARK_WEIGHT % 2 == 1 {
         return size_of(update, at);
     }
     size_of(cell, at)
@@ -50,16 +51,16 @@ pub fn put_at(
     number: u32,
 ) -> usize
     requires { ⌜ Able (now cell) (now update) a × Rooms (now join) (now table) (now room)
-        × (place + sizeOf (objectPieces number (objectOf (now cell) (now update) a)) ≤ length (now out)) ⌝ }
-    ensures { λ r. ⌜ Wrote (now (out .entry)) place (recordBytes (objectPieces number (objectOf (now (cell .entry)) (now (update .entry)) a))) (now (out .exit)) r ⌝ }
+        × (place + sizeOf (itemPieces number (objectOf (now cell) (now update) a)) ≤ length (now out)) ⌝ }
+    ensures { λ r. ⌜ Wrote (now (out .entry)) place (recordBytes (itemPieces number (objectOf (now (cell .entry)) (now (update .entry)) a))) (now (out .exit)) r ⌝ }
     ensures { λ _. ⌜ Rooms (now (join .exit)) (now (table .exit)) (now (room .exit)) ⌝ }
 {
     if a.change == 1 {
         let built = edited(cell, update, a, join, table, room);
         return put_item(room, built, out, place, number);
     }
-    let at = (a.word % 8388608) as usize;
-    if a.word / 8388608 % 2 == 1 {
+    let at = (a.word % word::MARK_WEIGHT) as usize;
+    if a.word / word::MARK_WEIGHT % 2 == 1 {
         return put_item(update, at, out, place, number);
     }
     put_item(cell, at, out, place, number)

@@ -1,9 +1,13 @@
-// The held form of what an update makes of a cell, whole: how long it is and whether it keeps its
-// limits, found before a byte is written, and its bytes. It takes the items of the result from the
-// walk of `merge`, the record of a changed item from `result`, each record in held form from
-// `writing`, and the parts in front from `reissue`.
+// The held form of what an update makes of a cell, whole: `planned`, how long it is and whether it keeps
+// its limits, found before a byte is written, and `put_result`, its bytes. It takes the items of the
+// result from the walk of `merge`, the record of a changed item from `resultitems`, each record in held
+// form from `writing`, the counts from `resultcounts` and the records in front from `revisedfront`.
 pub mod all;
-pub mod front;
 pub mod item;
-pub mod tally;
 pub mod write;
+
+// The plan of a result of `count` items.
+pub use write::planned;
+
+// The held form of the result, into the front of an area that has room for it.
+pub use write::put_result;

@@ -5,18 +5,18 @@ ghost use lib.ListN.{length};
 ghost use Rattle.octets.specs.Area.{Wrote};
 ghost use Rattle.held.specs.Held.{heldOf};
 ghost use Rattle.reissue.specs.Plan.{Planned};
-ghost use Rattle.result.specs.Able.{Rooms};
-ghost use Rattle.renewal.specs.Items.{objectsIn};
+ghost use Rattle.resultitems.specs.Able.{Rooms};
+ghost use Rattle.resultitems.specs.Items.{objectsIn};
 ghost use Rattle.renewal.specs.Renewed.{renewed, frontOf, Renewing};
 use crate::all::measure;
 use crate::all::put_items;
-use crate::front::front_sizes;
-use crate::front::fronts_of;
-use crate::front::put_front;
-use crate::tally::tally_items;
 use records::head::larger;
 use reissue::plan::Plan;
 use reissue::plan::within_limits;
+use resultcounts::tally::tally_items;
+use revisedfront::front::front_sizes;
+use revisedfront::front::fronts_of;
+use revisedfront::front::put_front;
 
 // The plan of a result of `count` items.
 pub fn planned(

@@ -7,8 +7,6 @@ use native.Mathlib.Omega.{arith}
 use lib.Dec.{eqb}
 use borrow.Author.Tests.{ne-eqb}
 use Rattle.words.specs.Words.{wordsIn}
-use Rattle.chart.specs.Read.{refusal}
-use Rattle.chart.specs.declared.read.Refusal.{Refusal}
 use Rattle.items.specs.Item.{Item}
 use Rattle.topology.specs.Topology.{faultFrom, topologyOf}
 use Rattle.topology.specs.Notes.{notesFor, notedCode, Beside, Prepared}
@@ -16,10 +14,11 @@ use Rattle.topology.proofs.ReachLaws.{code-noted}
 use Rattle.merge.specs.Places.{placesFrom, placesOf, Headed}
 use Rattle.merge.specs.declared.walk.At.{At}
 use Rattle.merge.proofs.PlacesLaws.{places-start, places-end}
-use Rattle.verdict.specs.Verdict.{objectItem, objectItems}
-use Rattle.result.specs.Result.{objectOf, itemsBy, resultItems}
-use Rattle.result.specs.Able.{Able, AllAble, Laid}
-use Rattle.result.proofs.PlacesLaws.{beside-all, beside-laid, laid-worded, walk-able, walk-rest}
+use Rattle.resultitems.specs.Result.{objectOf, itemsBy, resultItems}
+use Rattle.resultitems.specs.Able.{Able, AllAble, Laid}
+use Rattle.resultitems.proofs.PlacesLaws.{beside-all, beside-laid, laid-worded, walk-able, walk-rest}
+use Rattle.answers.specs.Answer.{refusal}
+use Rattle.answers.specs.declared.refusal.Refusal.{Refusal}
 
 -- the first i items, of which j are changed, have no code: the refusal is that of the rest
 pub record Judged (code : Item → ℕ) (cell update work : List ℕ) (end count edits i j : ℕ) : Type 0 where
@@ -34,17 +33,18 @@ judged-start code {cell} {update} {work} {end} {count} {edits} laid = record {
   left = omega arith;
 }
 
-module _ {code : Item → ℕ} {cell update work : List ℕ} {end count edits i j : ℕ} (judged : Judged code cell update work end count edits i j) {p : At} (head : Headed work end count edits i j p) where
+module _ {code : Item → ℕ} {cell update work : List ℕ} {end count edits i j : ℕ} (judged : Judged code cell update work end count edits i j) {p : At}
+    (head : Headed work end count edits i j p) where
   pub judged-able : Able cell update p
   judged-able = walk-able head (judged .able)
 
   turn : faultFrom code 3 (resultItems cell update work end count edits)
-      ≡ cond (eqb (code (objectItem (objectOf cell update p))) 0) (faultFrom code (3 + i + 1) (itemsBy cell update (placesFrom work end count edits (i + 1) (j + p .change))))
-      (refusal (code (objectItem (objectOf cell update p))) (3 + i) 0)
-  unfolding objectItems faultFrom
+      ≡ cond (eqb (code (objectOf cell update p)) 0) (faultFrom code (3 + i + 1) (itemsBy cell update (placesFrom work end count edits (i + 1) (j + p .change))))
+      (refusal (code (objectOf cell update p)) (3 + i) 0)
+  unfolding faultFrom
   turn = judged .is ∙ rw (head .is)
 
-  module _ (c : ℕ) (told : c ≡ code (objectItem (objectOf cell update p))) where
+  module _ (c : ℕ) (told : c ≡ code (objectOf cell update p)) where
     pub judged-found : (r : Refusal) → (c ≡ 0 → ⊥) → r ≡ refusal c (3 + i) 0 → r ≡ faultFrom code 3 (resultItems cell update work end count edits)
     judged-found r ne e = e ∙ sym (turn ∙ rw (← told, ne-eqb c 0 ne))
 
@@ -55,7 +55,7 @@ module _ {code : Item → ℕ} {cell update work : List ℕ} {end count edits i 
 
 pub judged-done : {code : Item → ℕ} {cell update work : List ℕ} {end count edits i j : ℕ} → Judged code cell update work end count edits i j → count ≤ i
     → (r : Refusal) → r ≡ refusal 0 0 0 → r ≡ faultFrom code 3 (resultItems cell update work end count edits)
-unfolding objectItems faultFrom
+unfolding faultFrom
 judged-done {code} {cell} {update} {work} {end} {count} {edits} {i} {j} judged high r e = e ∙ sym (judged .is ∙ rw (places-end work end count edits i j high))
 
 -- ---- the whole: c has the words of a, and their notes

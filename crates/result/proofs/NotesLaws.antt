@@ -12,10 +12,9 @@ use Rattle.topology.proofs.NotesLaws.{Noting, noting-start, noting-room, noting
 use Rattle.merge.specs.Places.{placesFrom, Woof, Headed}
 use Rattle.merge.specs.declared.walk.At.{At}
 use Rattle.merge.proofs.PlacesLaws.{places-start, places-end}
-use Rattle.verdict.specs.Verdict.{objectItem, objectItems}
-use Rattle.result.specs.Result.{objectOf, itemsBy, resultItems}
-use Rattle.result.specs.Able.{Able, AllAble, Laid}
-use Rattle.result.proofs.PlacesLaws.{beside-woof, beside-headed, walk-able, walk-rest}
+use Rattle.resultitems.specs.Result.{objectOf, itemsBy, resultItems}
+use Rattle.resultitems.specs.Able.{Able, AllAble, Laid}
+use Rattle.resultitems.proofs.PlacesLaws.{beside-woof, beside-headed, walk-able, walk-rest}
 
 -- the first i items are noted in `next`, of which j are changed; `work` is as it was before
 pub record Walked (cell update work : List ℕ) (end count edits i j : ℕ) (next : List ℕ) : Type 0 where
@@ -30,7 +29,8 @@ walked-start {cell} {update} {work} {end} {count} {edits} laid = record {
   left = omega arith;
 }
 
-module _ {cell update work : List ℕ} {end count edits i j : ℕ} {next : List ℕ} (walked : Walked cell update work end count edits i j next) (laid : Laid cell update work end count edits)
+module _ {cell update work : List ℕ} {end count edits i j : ℕ} {next : List ℕ} (walked : Walked cell update work end count edits i j next)
+    (laid : Laid cell update work end count edits)
     (more : i < count) where
   pub walked-woof : Woof next end count edits
   walked-woof = beside-woof end count edits (walked .so .beside) (laid .notes) (laid .woof)
@@ -48,9 +48,9 @@ module _ {cell update work : List ℕ} {end count edits i j : ℕ} {next : List 
     pub walked-able : Able cell update p
     walked-able = walk-able headed (walked .able)
 
-    pub walked-on : (note : ℕ) (c : List ℕ) → note ≡ noteFor (objectItem (objectOf cell update p)) → note < 2 ^ 64 → c ≡ putAt next (count + i) note
+    pub walked-on : (note : ℕ) (c : List ℕ) → note ≡ noteFor (objectOf cell update p) → note < 2 ^ 64 → c ≡ putAt next (count + i) note
         → Walked cell update work end count edits (i + 1) (j + p .change) c
-    unfolding objectItems notesFor
+    unfolding notesFor
     walked-on note c told small put =
         let left = itemsBy cell update (placesFrom work end count edits (i + 1) (j + p .change)) in
         let is : notesFor (itemsBy cell update (placesFrom work end count edits i j)) ≡ note ∷ notesFor left = rw (headed .is, ← told) in
@@ -58,7 +58,7 @@ module _ {cell update work : List ℕ} {end count edits i j : ℕ} {next : List 
 
 pub walked-done : {cell update work : List ℕ} {end count edits i j : ℕ} {next : List ℕ} → Walked cell update work end count edits i j next → i ≤ count → count ≤ i
     → NotesPut (notesFor (resultItems cell update work end count edits)) work count next
-unfolding objectItems notesFor
+unfolding notesFor
 walked-done {cell} {update} {work} {end} {count} {edits} {i} {j} {next} walked low high =
     noting-done (walked .so) (rw (places-end work end count edits i j high)) low high
 

@@ -1,23 +1,22 @@
-// Topology of an update's result, codes 17 to 19, before anything of it is written: its items in held
-// order by the words that `merge` wove, each judged by `topology` where its record stands.
+// Topology of an update's result, codes 17 to 19, before anything of it is written: `result_fault`, its
+// items in held order by the words that `merge` wove, each judged by `resultitems` where its record stands.
 ghost use Prim.Native.Nat.{_+_, _≤_};
 ghost use mathlib.Core.Path.{_≡_};
+ghost use Rattle.headvalues.specs.Dspm.{mostComf};
 ghost use Rattle.words.specs.Words.{wordsIn};
-ghost use Rattle.names.specs.Held.{Noted};
+ghost use Rattle.names.specs.Premises.{Noted};
 ghost use Rattle.topology.specs.Topology.{faultFrom, topologyOf};
 ghost use Rattle.topology.specs.Notes.{notesFor, notedCode, Beside, NotesPut, Prepared};
 ghost use Rattle.merge.specs.Places.{placesOf};
-ghost use Rattle.result.specs.Result.{resultItems};
-ghost use Rattle.result.specs.Able.{Laid, Rooms};
-use chart::Refusal;
-use chart::read::refuse;
-use item::code_of;
-use item::note_of;
+ghost use Rattle.resultitems.specs.Result.{resultItems};
+ghost use Rattle.resultitems.specs.Able.{Laid, Rooms};
+use answers::Refusal;
+use answers::refusal::refuse;
 use merge::walk::item_at;
+use resultitems::item::code_of;
+use resultitems::item::note_of;
 use topology::note::sort_notes;
 use words::put;
-
-pub mod item;
 
 // The notes of all items, behind their words.
 fn put_notes(
@@ -60,7 +59,8 @@ fn prepare(
     room: &mut [u8],
 ) -> usize
     requires { ⌜ Laid (now cell) (now update) (now work) end count edits × Rooms (now join) (now table) (now room) ⌝ }
-    ensures { λ r. ⌜ Prepared (notesFor (resultItems (now (cell .entry)) (now (update .entry)) (now (work .entry)) end count edits)) (wordsIn (now (work .entry)) 0 count) count (now (work .exit)) r
+    ensures { λ r. ⌜ Prepared (notesFor (resultItems (now (cell .entry)) (now (update .entry)) (now (work .entry)) end count edits)) (wordsIn (now (work .entry)) 0 count) count
+        (now (work .exit)) r
         × Beside (now (work .entry)) count (now (work .exit)) × Rooms (now (join .exit)) (now (table .exit)) (now (room .exit)) ⌝ }
 {
     put_notes(cell, update, work, end, count, edits, join, table, room);
@@ -81,7 +81,7 @@ fn items_fault(
     table: &mut [u32],
     room: &mut [u8],
 ) -> Refusal
-    requires { ⌜ Laid (now cell) (now update) (now work) end count edits × Noted (now work) count v × (comf ≤ 10000000) × Rooms (now join) (now table) (now room) ⌝ }
+    requires { ⌜ Laid (now cell) (now update) (now work) end count edits × Noted (now work) count v × (comf ≤ mostComf) × Rooms (now join) (now table) (now room) ⌝ }
     ensures { λ r. ⌜ (r ≡ faultFrom (notedCode comf (now (work .entry)) count v) 3 (resultItems (now (cell .entry)) (now (update .entry)) (now (work .entry)) end count edits))
         × Rooms (now (join .exit)) (now (table .exit)) (now (room .exit)) ⌝ }
 {
@@ -113,7 +113,7 @@ pub fn result_fault(
     table: &mut [u32],
     room: &mut [u8],
 ) -> Refusal
-    requires { ⌜ Laid (now cell) (now update) (now work) end count edits × (comf ≤ 10000000) × Rooms (now join) (now table) (now room) ⌝ }
+    requires { ⌜ Laid (now cell) (now update) (now work) end count edits × (comf ≤ mostComf) × Rooms (now join) (now table) (now room) ⌝ }
     ensures { λ r. ⌜ r ≡ topologyOf comf (resultItems (now (cell .entry)) (now (update .entry)) (now (work .entry)) end count edits) ⌝ }
     ensures { λ _. ⌜ placesOf (now (work .exit)) end count edits ≡ placesOf (now (work .entry)) end count edits ⌝ }
     ensures { λ _. ⌜ Rooms (now (join .exit)) (now (table .exit)) (now (room .exit)) ⌝ }

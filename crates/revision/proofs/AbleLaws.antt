@@ -6,13 +6,11 @@ use mathlib.Core.Path.{_≡_, sym, _∙_}
 use native.Mathlib.Omega.{arith}
 use lib.Dec.{eqb}
 use Rattle.words.specs.Order.{sorted}
-use Rattle.chart.specs.Read.{aallAt, nallAt}
 use Rattle.iso8211.specs.File.{recordAt}
-use Rattle.items.specs.Identity.{nameOf, ruinAt}
-use Rattle.names.specs.Names.{nameWords}
-use Rattle.objects.specs.Object.{objectAt}
-use Rattle.writing.specs.All.{objectsAt}
-use Rattle.merge.specs.Words.{markOf, offsetOf}
+use Rattle.items.specs.Identity.{ruinAt}
+use Rattle.items.specs.Word.{nameOf, markOf, markedOffset}
+use Rattle.names.specs.NameWords.{nameWords, itemsAt}
+use Rattle.items.specs.Item.{itemAt}
 use Rattle.merge.specs.Places.{joined, single, double, placesFrom, placesOf}
 use Rattle.merge.specs.Files.{RecordOf}
 use Rattle.merge.specs.Sited.{Sited, AllSited, AllInsert}
@@ -22,12 +20,13 @@ use Rattle.merge.specs.declared.walk.At.{At}
 use Rattle.changes.specs.Change.{amendmentAt, changeOf}
 use Rattle.changes.specs.Amend.{amendmentsFault}
 use Rattle.changes.specs.Updated.{amended}
-use Rattle.result.specs.Result.{objectBy, changedBy, objectOf}
-use Rattle.result.specs.Able.{Able, AllAble}
-use Rattle.result.specs.Able.AllAble.{able-none, able-more}
+use Rattle.resultitems.specs.Result.{objectBy, changedBy, objectOf}
+use Rattle.resultitems.specs.Able.{Able, AllAble}
+use Rattle.resultitems.specs.Able.AllAble.{able-none, able-more}
 use Rattle.result.proofs.WordedLaws.{sited-worded}
 use Rattle.revision.specs.Following.{Following, Small}
 use Rattle.revision.proofs.StandLaws.{stand-kept, stand-new, stand-changed}
+use Rattle.layout.specs.General.{aallAt, nallAt}
 
 -- ---- an item is modified once at most
 pub data AllOnce : List At → Type 0 where
@@ -51,23 +50,25 @@ once-places work end count edits = once-joined _ _
 
 -- ---- the items
 module _ {cell : List ℕ} {n : ℕ} {update : List ℕ} {m : ℕ} (f : Following cell n update m) (small : Small cell update)
-    (none : amendmentsFault (objectsAt cell (sorted (nameWords false cell n))) 2 (changeOf update m .amendments) .code ≡ 0) where
-  changed-object : (p : At) → markOf (p .word) ≡ 0 → p .change ≡ 1 → objectOf cell update p ≡ amended (amendmentAt update (offsetOf (p .by))) (objectAt cell (offsetOf (p .word)))
+    (none : amendmentsFault (itemsAt cell (sorted (nameWords false cell n))) 2 (changeOf update m .amendments) .code ≡ 0) where
+  changed-object : (p : At) → markOf (p .word) ≡ 0 → p .change ≡ 1 → objectOf cell update p ≡ amended (amendmentAt update (markedOffset (p .by)))
+      (itemAt cell (markedOffset (p .word)))
   unfolding objectBy changedBy
   changed-object p plain e = rw (e, plain)
 
-  able : (p : At) → Sited (RecordOf false cell n) (RecordOf true update m) cell update p → (markOf (p .word) ≡ 1 → ruinAt update (offsetOf (p .word)) ≡ 1) → p .change ≤ 1
+  able : (p : At) → Sited (RecordOf false cell n) (RecordOf true update m) cell update p → (markOf (p .word) ≡ 1 → ruinAt update (markedOffset (p .word)) ≡ 1) → p .change ≤ 1
       → Able cell update p
   able p sited insert one = record {
     worded = sited-worded (record { low = small .old }) (record { low = small .new }) sited one;
     one = one;
-    kept = λ e plain. stand-kept f small (offsetOf (p .word)) (sited .plain plain .is);
-    new = λ e mark. stand-new f small (offsetOf (p .word)) (sited .mark mark .is) (insert mark);
+    kept = λ e plain. stand-kept f small (markedOffset (p .word)) (sited .plain plain .is);
+    new = λ e mark. stand-new f small (markedOffset (p .word)) (sited .mark mark .is) (insert mark);
     changed = λ (e : p .change ≡ 1).
         let plain = sited .held e in
         let old = sited .plain plain in
         let new = sited .by e in
-        let is = stand-changed f small none (offsetOf (p .word)) (offsetOf (p .by)) (old .is) (new .is) (sym (old .name) ∙ sym (sited .same e) ∙ new .name) (sited .edit e) in
+        let is = stand-changed f small none (markedOffset (p .word)) (markedOffset (p .by)) (old .is) (new .is) (sym (old .name) ∙ sym (sited .same e) ∙ new .name)
+        (sited .edit e) in
         record {
           held = plain;
           edit = is .editable;

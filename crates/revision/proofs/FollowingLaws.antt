@@ -1,9 +1,9 @@
 -- What is known of two files without a refusal up to 12, and of their records where 13 to 16 find nothing. Assumes nothing.
 use Prim.Native.Nat.{ℕ, zero, suc, _+_, _-_, _≤_, _<_}
-use mathlib.Core.Bool.{Bool, true, false, cond}
+use mathlib.Core.Bool.{Bool, true, false}
 use mathlib.Core.List.{List, [], _∷_}
 use mathlib.Core.Logic.{_⊎_, ⊎-elim}
-use mathlib.Core.Path.{_≡_, refl}
+use mathlib.Core.Path.{_≡_, refl, sym, ap}
 use native.Mathlib.Omega.{arith}
 use lib.ListN.{length, getD}
 use lib.Dec.{eqb}
@@ -11,58 +11,28 @@ use borrow.Author.Tests.{eq-eqb, ne-eqb, eqb-true, eqb-false}
 use Rattle.octets.proofs.Cases.{true-or-false, eq-or-ne}
 use Rattle.iso8211.specs.Record.{endOf}
 use Rattle.iso8211.specs.File.{recordAt}
-use Rattle.iso8211.proofs.Promise.{at-next}
-use Rattle.words.specs.Order.{isIn}
-use Rattle.chart.specs.Read.{refusal, fine, readFault}
-use Rattle.chart.specs.declared.read.Refusal.{Refusal}
-use Rattle.items.specs.Identity.{nameOf, placeOf}
-use Rattle.names.specs.Names.{firstItem, nameWords, twiceFrom, twiceOf, Readable, Strict}
-use Rattle.names.specs.Lookup.{lookup}
-use Rattle.names.specs.declared.twice.Repeat.{Repeat}
-use Rattle.names.specs.declared.lookup.Found.the-variants.{At}
-use Rattle.reader.specs.Reader.{cellFault, updateFault, twiceRefusal, countsRefusal}
-use Rattle.reader.proofs.ReaderLaws.{readable}
-use Rattle.objects.specs.Object.{Object}
+use Rattle.iso8211.proofs.Promise.{at-next, at-start}
+use Rattle.chart.specs.Read.{readFault}
+use Rattle.items.specs.Word.{nameOf, wordOffset}
+use Rattle.names.specs.Premises.{Readable, Strict}
+use Rattle.names.specs.Names.{twiceOf}
+use Rattle.lookups.specs.LookupWords.{lookup}
+use Rattle.lookups.specs.declared.lookup.Found.the-variants.{At}
+use Rattle.reader.proofs.ReaderLaws.{readable, cell-parts, update-parts}
+use Rattle.items.specs.Item.{Item}
 use Rattle.held.proofs.CellLaws.{CellTold, cell-told}
 use Rattle.changes.specs.Change.{Amendment, amendmentAt, amendmentsFrom, changeOf}
 use Rattle.changes.specs.Amend.{amendmentCode, amendmentsFault}
 use Rattle.changes.specs.Told.{UpdateTold}
 use Rattle.changes.proofs.ToldLaws.{update-told}
 use Rattle.revision.specs.Following.{Following, Small}
+use Rattle.answers.specs.First.{firstBy}
 
 -- ---- out of the verdicts of reading
-read-apart : (r : Refusal) (t : Repeat) (on : Refusal) → (cond (eqb (r .code) 0) (cond (eqb (t .index) 0) on (refusal 7 (t .index) (t .offset))) r) .code ≡ 0
-    → (r .code ≡ 0) × (t .index ≡ 0)
-read-apart r t on h =
-    ⊎-elim (λ (a : eqb (r .code) 0 ≡ true).
-    ⊎-elim (λ (b : eqb (t .index) 0 ≡ true). (eqb-true (r .code) 0 a, eqb-true (t .index) 0 b))
-    (λ (b : eqb (t .index) 0 ≡ false). absurd (let z : _≡_ {A = ℕ} 7 0 = rw (a, b) at h in omega arith)) (true-or-false (eqb (t .index) 0)))
-    (λ (a : eqb (r .code) 0 ≡ false). absurd (eqb-false (r .code) 0 a (rw a at h))) (true-or-false (eqb (r .code) 0))
-
-pub cell-parts : (s : List ℕ) (n : ℕ) → cellFault s n .code ≡ 0 → (readFault false s n .code ≡ 0) × (twiceOf false s n .index ≡ 0)
-unfolding cellFault twiceRefusal
-cell-parts s n h = read-apart (readFault false s n) (twiceOf false s n) (countsRefusal s n) h
-
-pub update-parts : (s : List ℕ) (n : ℕ) → updateFault s n .code ≡ 0 → (readFault true s n .code ≡ 0) × (twiceOf true s n .index ≡ 0)
-unfolding updateFault twiceRefusal
-update-parts s n h = read-apart (readFault true s n) (twiceOf true s n) fine h
-
 -- no repeat is no record and no place
-once-none : (k : ℕ) (seen ws : List ℕ) → 1 ≤ k → twiceFrom k seen ws .index ≡ 0 → twiceFrom k seen ws ≡ record { index = 0; offset = 0 }
-unfolding twiceFrom
-once-none k seen [] h e = refl
-once-none k seen (w ∷ ws) h e =
-    ⊎-elim (λ (met : isIn (nameOf w) seen ≡ true). absurd (let z : k ≡ 0 = rw met at e in omega arith))
-    (λ (new : isIn (nameOf w) seen ≡ false). rw new (once-none (k + 1) (nameOf w ∷ seen) ws (omega arith) (rw new at e))) (true-or-false (isIn (nameOf w) seen))
-
-first-some : (update : Bool) → 1 ≤ firstItem update
-unfolding firstItem
-first-some true = omega arith
-first-some false = omega arith
-
 once-whole : (update : Bool) (s : List ℕ) (n : ℕ) → twiceOf update s n .index ≡ 0 → twiceOf update s n ≡ record { index = 0; offset = 0 }
 unfolding twiceOf
-once-whole update s n e = once-none (firstItem update) [] (nameWords update s n) (first-some update) e
+once-whole update s n e = rw e (ap (λ (p : ℕ). record { index = 0; offset = p }) (sym (at-start s)))
 
 module _ {cell : List ℕ} {n : ℕ} {update : List ℕ} {m : ℕ} (f : Following cell n update m) where
   pub cell-read : readFault false cell n .code ≡ 0
@@ -91,14 +61,14 @@ module _ {cell : List ℕ} {n : ℕ} {update : List ℕ} {m : ℕ} (f : Followin
     update-known = update-told update m (f .come .framed) (f .come .short) (small .new) update-read (update-parts update m (f .update-fine) .1)
 
 -- ---- where 13 to 16 find nothing, no record has a code
-none-apart : (held : List Object) (k : ℕ) (a : Amendment) (more : List Amendment) → amendmentsFault held k (a ∷ more) .code ≡ 0
+none-apart : (held : List Item) (k : ℕ) (a : Amendment) (more : List Amendment) → amendmentsFault held k (a ∷ more) .code ≡ 0
     → (amendmentCode held a ≡ 0) × (amendmentsFault held (k + 1) more .code ≡ 0)
-unfolding amendmentsFault
+unfolding amendmentsFault firstBy
 none-apart held k a more h =
     ⊎-elim (λ (e : eqb (amendmentCode held a) 0 ≡ true). (eqb-true (amendmentCode held a) 0 e, rw e at h))
     (λ (e : eqb (amendmentCode held a) 0 ≡ false). absurd (eqb-false (amendmentCode held a) 0 e (rw e at h))) (true-or-false (eqb (amendmentCode held a) 0))
 
-codes-from : (held : List Object) (s : List ℕ) (c k : ℕ) → amendmentsFault held k (amendmentsFrom c s (recordAt s k)) .code ≡ 0
+codes-from : (held : List Item) (s : List ℕ) (c k : ℕ) → amendmentsFault held k (amendmentsFrom c s (recordAt s k)) .code ≡ 0
     → (j : ℕ) → k ≤ j → j < k + c → amendmentCode held (amendmentAt s (recordAt s j)) ≡ 0
 unfolding amendmentsFrom
 codes-from held s zero k h j low high = absurd (omega arith)
@@ -107,13 +77,13 @@ codes-from held s (suc c) k h j low high =
     ⊎-elim (λ (here : k ≡ j). rw (← here) (r .0))
     (λ (later : k ≡ j → ⊥). codes-from held s c (k + 1) (rw (at-next s k (recordAt s k) refl) at (r .1)) j (omega arith) (omega arith)) (eq-or-ne k j)
 
-pub codes-none : (held : List Object) (s : List ℕ) (m : ℕ) → 2 ≤ m → amendmentsFault held 2 (changeOf s m .amendments) .code ≡ 0
+pub codes-none : (held : List Item) (s : List ℕ) (m : ℕ) → 2 ≤ m → amendmentsFault held 2 (changeOf s m .amendments) .code ≡ 0
     → (j : ℕ) → 2 ≤ j → j < m → amendmentCode held (amendmentAt s (recordAt s j)) ≡ 0
 unfolding changeOf
 codes-none held s m two h j low high = codes-from held s (m - 2) 2 h j low (omega arith)
 
 -- ---- a name of rising words is found where it stands
-pub lookup-at : (ws : List ℕ) (p : ℕ) → Strict ws → p < length ws → lookup ws (nameOf (getD ws p 0)) ≡ At (placeOf (getD ws p 0))
+pub lookup-at : (ws : List ℕ) (p : ℕ) → Strict ws → p < length ws → lookup ws (nameOf (getD ws p 0)) ≡ At (wordOffset (getD ws p 0))
 unfolding lookup
 lookup-at [] p strict h = absurd (omega arith)
 lookup-at (w ∷ ws) zero strict h = rw (eq-eqb (nameOf w) (nameOf w) refl)

@@ -14,19 +14,19 @@ use Rattle.octets.proofs.Cases.{true-or-false}
 use Rattle.iso8211.specs.File.{recordAt}
 use Rattle.iso8211.proofs.Promise.{record-in}
 use Rattle.words.specs.Order.{sorted}
-use Rattle.chart.specs.Read.{aallAt, nallAt}
-use Rattle.items.specs.Identity.{nameAt, nameOf, rcnmAt, ruinAt, versionAt}
-use Rattle.names.specs.Names.{firstItem, nameWords}
-use Rattle.names.specs.Lookup.{lookup}
-use Rattle.names.specs.declared.lookup.Found.the-variants.{At}
+use Rattle.items.specs.Identity.{nameAt, rcnmAt, ruinAt, versionAt}
+use Rattle.items.specs.Word.{nameOf}
+use Rattle.names.specs.NameWords.{nameWords, itemsAt}
+use Rattle.lookups.specs.LookupWords.{lookup}
+use Rattle.names.specs.Names.{firstItem}
+use Rattle.lookups.specs.declared.lookup.Found.the-variants.{At}
 use Rattle.names.proofs.HeldLaws.{all-stand}
 use Rattle.names.proofs.OnceLaws.{once-rising}
-use Rattle.objects.specs.Object.{Object, objectAt}
+use Rattle.items.specs.Item.{Item, itemAt}
 use Rattle.held.specs.Chart.{headerOf}
 use Rattle.held.specs.Good.{Good}
 use Rattle.edits.specs.Lists.{listsAllowed}
-use Rattle.writing.specs.All.{objectsAt}
-use Rattle.writing.specs.Plain.{Writable}
+use Rattle.itemrows.specs.Plain.{Writable}
 use Rattle.writing.proofs.WritableLaws.{cell-writable, insert-writable}
 use Rattle.merge.specs.Files.{RecordOf}
 use Rattle.changes.specs.Change.{Amendment, amendmentAt, editOf, changeOf}
@@ -37,13 +37,14 @@ use Rattle.changes.specs.Good.ObjectBrought.{brought-vector, brought-feature}
 use Rattle.changes.proofs.FollowLaws.{follows-told}
 use Rattle.changes.proofs.ObjectLaws.{amended-object}
 use Rattle.amend.specs.Pairs.{Paired}
-use Rattle.rebuild.specs.Record.{Editable}
+use Rattle.raising.specs.Record.{Editable}
 use Rattle.rebuild.proofs.SumLaws.{record-sums, kinds-apart}
 use Rattle.amendments.specs.Amendable.{Amendable}
 use Rattle.amendments.proofs.AmendableLaws.{pair, object-good, stand-named, all-amendable}
 use Rattle.amendments.proofs.LookupLaws.{code-some}
 use Rattle.revision.specs.Following.{Following, Small}
 use Rattle.revision.proofs.FollowingLaws.{cell-read, update-read, cell-readable, update-readable, cell-once, cell-known, update-known, codes-none, lookup-at}
+use Rattle.layout.specs.General.{aallAt, nallAt}
 
 -- ---- out of a code 0 of a record that modifies
 identity-none : (z : Bool) (e : Bool) → _≡_ {A = ℕ} (cond z (cond e 0 16) 15) 0 → e ≡ true
@@ -59,17 +60,17 @@ target-none : (z : Bool) (rest : ℕ) → cond z 13 rest ≡ 0 → rest ≡ 0
 target-none true rest h = absurd (omega arith)
 target-none false rest h = h
 
-modify-parts : (a : Amendment) (t : Object) → foundCode a (some t) ≡ 0 → (a .object .version ≡ t .version + 1) × (editAllowed a t ≡ true)
+modify-parts : (a : Amendment) (t : Item) → foundCode a (some t) ≡ 0 → (a .object .version ≡ t .version + 1) × (editAllowed a t ≡ true)
 unfolding foundCode modifyCode
 modify-parts a t h =
     let v = version-none (a .object .version) (t .version + 1) _ (target-none (eqb (a .ruin) 1) _ h) in
     (v .0, identity-none (identitySame (a .object) t) (editAllowed a t) (v .1))
 
-lists-parts : (a : Amendment) (t : Object) → (a .ruin ≡ 2 → ⊥) → editAllowed a t ≡ true → listsAllowed (kindsOf (t .rcnm)) (editOf a) (t .lists) ≡ true
+lists-parts : (a : Amendment) (t : Item) → (a .ruin ≡ 2 → ⊥) → editAllowed a t ≡ true → listsAllowed (kindsOf (t .rcnm)) (editOf a) (t .lists) ≡ true
 unfolding editAllowed
 lists-parts a t ne h = rw (ne-eqb (a .ruin) 2 ne) at h
 
-version-high : {aall nall : ℕ} {t : Object} → ObjectBrought aall nall t → t .version ≤ 65535
+version-high : {aall nall : ℕ} {t : Item} → ObjectBrought aall nall t → t .version ≤ 65535
 version-high (brought-vector v) = v .version-high
 version-high (brought-feature v) = v .version-high
 
@@ -84,7 +85,7 @@ two-low k h = h
 -- what is known of a modify and the record that it names
 pub record Modifies (cell : List ℕ) (at : ℕ) (update : List ℕ) (by : ℕ) : Type 0 where
   pub editable : Editable cell at update by
-  pub good : Good (aallAt cell (recordAt cell 1)) (nallAt cell (recordAt cell 1)) (amended (amendmentAt update by) (objectAt cell at))
+  pub good : Good (aallAt cell (recordAt cell 1)) (nallAt cell (recordAt cell 1)) (amended (amendmentAt update by) (itemAt cell at))
 
 module _ {cell : List ℕ} {n : ℕ} {update : List ℕ} {m : ℕ} (f : Following cell n update m) (small : Small cell update) where
   pub stand-kept : (at : ℕ) → RecordOf false cell n at → Writable cell at
@@ -98,7 +99,7 @@ module _ {cell : List ℕ} {n : ℕ} {update : List ℕ} {m : ℕ} (f : Followin
   held : List ℕ
   held = sorted (nameWords false cell n)
 
-  module _ (none : amendmentsFault (objectsAt cell (sorted (nameWords false cell n))) 2 (changeOf update m .amendments) .code ≡ 0)
+  module _ (none : amendmentsFault (itemsAt cell (sorted (nameWords false cell n))) 2 (changeOf update m .amendments) .code ≡ 0)
       (at by : ℕ) (old : RecordOf false cell n at) (new : RecordOf true update m by) (name : nameAt cell at ≡ nameAt update by) (keep : ruinAt update by ≡ 2 → ⊥) where
     word-named : nameOf (getD (sorted (nameWords false cell n)) (old .word) 0) ≡ nameAt update by
     word-named = stand-named (all-stand (cell-readable f) .each (old .word) (old .there)) ∙ ap (λ (x : ℕ). nameAt cell x) (sym (old .stands)) ∙ name
@@ -106,7 +107,8 @@ module _ {cell : List ℕ} {n : ℕ} {update : List ℕ} {m : ℕ} (f : Followin
     paired : Paired cell at update by
     paired =
         rw (old .stands, new .is)
-        (pair (cell-readable f) (cell-known f small) (small .old) (f .come .framed) (update-known f small) (small .new) (old .word) (old .there) (new .index) (two-low (new .index) (new .low))
+        (pair (cell-readable f) (cell-known f small) (small .old) (f .come .framed) (update-known f small) (small .new) (old .word) (old .there) (new .index)
+        (two-low (new .index) (new .low))
         (new .high) (word-named ∙ ap (λ (x : ℕ). nameAt update x) (new .is)))
 
     amendable : Amendable cell (sorted (nameWords false cell n)) update by
@@ -115,34 +117,37 @@ module _ {cell : List ℕ} {n : ℕ} {update : List ℕ} {m : ℕ} (f : Followin
         (all-amendable (cell-readable f) (cell-known f small) (small .old) (f .come .framed) (update-known f small) (small .new) (sorted (nameWords false cell n)) refl
         .each (new .index) (two-low (new .index) (new .low)) (new .high))
 
-    code : amendmentCode (objectsAt cell (sorted (nameWords false cell n))) (amendmentAt update by) ≡ 0
-    code = rw (new .is) (codes-none (objectsAt cell (sorted (nameWords false cell n))) update m (update-known f small .two) none (new .index) (two-low (new .index) (new .low)) (new .high))
+    code : amendmentCode (itemsAt cell (sorted (nameWords false cell n))) (amendmentAt update by) ≡ 0
+    code = rw (new .is) (codes-none (itemsAt cell (sorted (nameWords false cell n))) update m (update-known f small .two) none (new .index) (two-low (new .index) (new .low))
+        (new .high))
 
     found : lookup (sorted (nameWords false cell n)) (nameAt update by) ≡ At at
     found =
         let is = lookup-at (sorted (nameWords false cell n)) (old .word) (once-rising false (cell-readable f) (cell-once f)) (old .there) in
         ap (lookup (sorted (nameWords false cell n))) (sym word-named) ∙ is ∙ ap At (sym (old .stands))
 
-    parts : (versionAt update by ≡ versionAt cell at + 1) × (editAllowed (amendmentAt update by) (objectAt cell at) ≡ true)
+    parts : (versionAt update by ≡ versionAt cell at + 1) × (editAllowed (amendmentAt update by) (itemAt cell at) ≡ true)
     parts =
-        modify-parts (amendmentAt update by) (objectAt cell at)
+        modify-parts (amendmentAt update by) (itemAt cell at)
         (code-some cell (sorted (nameWords false cell n)) update by amendable (nameAt update by) refl (lookup (sorted (nameWords false cell n)) (nameAt update by)) refl at
-        found (foundCode (amendmentAt update by) (some (objectAt cell at))) refl ∙ code)
+        found (foundCode (amendmentAt update by) (some (itemAt cell at))) refl ∙ code)
 
     pub stand-changed : Modifies cell at update by
     unfolding changeOf headerOf nameAt
     stand-changed =
         let told = update-known f small .records (new .index) (two-low (new .index) (new .low)) (new .high) in
         let t = follows-told (headerOf cell) (changeOf update m) (f .follows) in
-        let body : ObjectBrought (aallAt cell (recordAt cell 1)) (nallAt cell (recordAt cell 1)) (objectAt update by) = rw (new .is, ← (t .attributes), ← (t .national)) (told .good .body) in
+        let body : ObjectBrought (aallAt cell (recordAt cell 1)) (nallAt cell (recordAt cell 1)) (itemAt update by) = rw (new .is, ← (t .attributes), ← (t .national))
+        (told .good .body) in
         let three = cell-known f small .three in
         let below : old .index < 3 + (n - 3) = let h = old .high in omega arith in
-        let good : Good (aallAt cell (recordAt cell 1)) (nallAt cell (recordAt cell 1)) (objectAt cell at) =
-        rw (old .is) (object-good (aallAt cell (recordAt cell 1)) (nallAt cell (recordAt cell 1)) cell (n - 3) 3 (cell-known f small .apart) (old .index) (three-low (old .index) (old .low)) below) in
+        let good : Good (aallAt cell (recordAt cell 1)) (nallAt cell (recordAt cell 1)) (itemAt cell at) =
+        rw (old .is) (object-good (aallAt cell (recordAt cell 1)) (nallAt cell (recordAt cell 1)) cell (n - 3) 3 (cell-known f small .apart) (old .index)
+        (three-low (old .index) (old .low)) below) in
         record {
           editable = record {
             paired = paired;
-            allowed = lists-parts (amendmentAt update by) (objectAt cell at) keep (parts .1);
+            allowed = lists-parts (amendmentAt update by) (itemAt cell at) keep (parts .1);
             old-sum = record-sums cell at (record-in cell n (old .index) at (f .held .framed) (old .high) (old .is)) (kindsOf (rcnmAt cell at)) (kinds-apart (rcnmAt cell at));
             new-sum = record-sums update by (record-in update m (new .index) by (f .come .framed) (new .high) (new .is)) (kindsOf (rcnmAt cell at)) (kinds-apart (rcnmAt cell at));
             low = omega (arith, parts .0, version-high body);

@@ -3,14 +3,15 @@ use Prim.Native.Nat.{ℕ, _<_}
 use mathlib.Core.List.{List}
 use mathlib.Core.Path.{_≡_}
 use Rattle.octets.specs.Number.{byteAt}
-use Rattle.reader.specs.Reader.{Short, cellFault, updateFault}
+use Rattle.reader.specs.Lent.{FileOpened}
+use Rattle.reader.specs.Reader.{cellFault, updateFault}
 use Rattle.held.specs.Chart.{headerOf}
 use Rattle.changes.specs.Change.{changeOf}
 use Rattle.changes.specs.Follow.{followCode}
 
 pub record Following (cell : List ℕ) (n : ℕ) (update : List ℕ) (m : ℕ) : Type 0 where
-  pub held : Short cell n
-  pub come : Short update m
+  pub held : FileOpened cell n
+  pub come : FileOpened update m
   pub cell-fine : cellFault cell n .code ≡ 0
   pub update-fine : updateFault update m .code ≡ 0
   pub follows : followCode (headerOf cell) (changeOf update m) ≡ 0

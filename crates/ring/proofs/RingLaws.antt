@@ -15,15 +15,17 @@ use Rattle.items.specs.declared.cursor.Cursor.{Cursor}
 use Rattle.items.specs.declared.cursor.Next.{Next}
 use Rattle.items.specs.declared.cursor.Next.the-variants.{Entry, Done}
 use Rattle.items.proofs.CursorLaws.{begin-left, next-left, next-done, next-less}
-use Rattle.names.specs.Lookup.{nameIn, foundCode}
-use Rattle.names.specs.declared.lookup.Found.{Found}
-use Rattle.names.specs.declared.lookup.Found.the-variants.{At, Nothing}
-use Rattle.names.proofs.LookupLaws.{code-at, code-nothing}
-use Rattle.pointer.specs.Pointer.{firstCode, namesCode}
+use Rattle.lookups.specs.Lookup.{nameIn, foundCode}
+use Rattle.lookups.specs.declared.lookup.Found.{Found}
+use Rattle.lookups.specs.declared.lookup.Found.the-variants.{At, Nothing}
+use Rattle.lookups.proofs.LookupLaws.{code-at, code-nothing}
+use Rattle.pointer.specs.Pointer.{namesCode}
+use Rattle.answers.specs.First.{firstCode, firstBy}
 use Rattle.ring.specs.declared.step.Step.{Step}
 use Rattle.ring.specs.declared.step.Taken.{Taken}
 use Rattle.ring.specs.declared.step.Taken.the-variants.{Edge, Missing}
-use Rattle.ring.specs.Ring.{stepOf, usageGood, along, ringsFrom, ringsGood, takenWith, takenOf, behind, namedAnd, areaClosed, areaCode}
+use Rattle.ring.specs.Walk.{takenWith, takenOf, behind, namedAnd, areaClosed, areaCode}
+use Rattle.ring.specs.Ring.{stepOf, usageGood, along, ringsFrom, ringsGood}
 
 -- ---- what an edge tells of the names
 edge-told : (f : Found) (t u : Step) → takenWith f u ≡ Edge t → (foundCode f ≡ 0) × (u ≡ t)
@@ -45,12 +47,12 @@ bad-rings place es = by (eqb (namesCode place es) 0) where
 
 module _ (place : ℕ → Found) (node : ℕ → ℕ → ℕ) (e : List ℕ) (es : List (List ℕ)) (k : Taken) (told : k ≡ takenOf place node e) where
   missing-names : (good : Bool) → k ≡ Missing → namedAnd place (e ∷ es) good ≡ false
-  unfolding namedAnd namesCode firstCode takenOf
+  unfolding namedAnd namesCode firstBy takenOf
   missing-names good m = rw (missing-told (place (nameIn e)) (stepOf node e) (sym told ∙ m))
 
   module _ (t : Step) (is : k ≡ Edge t) where
     named-on : (good : Bool) → namedAnd place (e ∷ es) good ≡ namedAnd place es good
-    unfolding namedAnd namesCode firstCode takenOf
+    unfolding namedAnd namesCode firstBy takenOf
     named-on good = rw (edge-told (place (nameIn e)) t (stepOf node e) (sym told ∙ is) .0)
 
     step-is : stepOf node e ≡ t
@@ -136,7 +138,7 @@ module _ (s : List ℕ) (at : ℕ) (c : Cursor) (r : Next) (stepped : Stepped s 
 
 -- ---- the code of an area: good is the answer of the walk, n the code of its names
 both-good : (n : ℕ) (rings : Bool) → (eqb n 0 && rings) ≡ true → 0 ≡ firstCode n (cond rings 0 19)
-unfolding firstCode
+unfolding firstBy
 both-good n rings h = by (eqb n 0) rings h where
   by : (z b : Bool) → (z && b) ≡ true → 0 ≡ cond z (cond b 0 19) n
   by true true h = refl
@@ -144,7 +146,7 @@ both-good n rings h = by (eqb n 0) rings h where
   by false b h = absurd (let z : _≡_ {A = ℕ} 0 1 = cc in omega arith)
 
 rings-bad : (n : ℕ) (rings : Bool) → (eqb n 0 && rings) ≡ false → n ≡ 0 → 19 ≡ firstCode n (cond rings 0 19)
-unfolding firstCode
+unfolding firstBy
 rings-bad n rings h z = by rings (rw z at h) where
   by : (b : Bool) → b ≡ false → 19 ≡ cond (eqb n 0) (cond b 0 19) n
   by b e = rw (z, e)
@@ -155,7 +157,7 @@ module _ (place : ℕ → Found) (node : ℕ → ℕ → ℕ) (es : List (List �
   area-good h = both-good (namesCode place es) (ringsGood node es) (sym judged ∙ h)
 
   pub area-missing : (n : ℕ) → n ≡ namesCode place es → (n ≡ 0 → ⊥) → n ≡ areaCode place node es
-  unfolding areaCode firstCode
+  unfolding areaCode firstBy
   area-missing n named ne = rw (← named, ne-eqb n 0 ne)
 
   pub area-open : (n : ℕ) → good ≡ false → n ≡ namesCode place es → n ≡ 0 → 19 ≡ areaCode place node es

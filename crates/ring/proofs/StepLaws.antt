@@ -7,16 +7,20 @@ use native.Mathlib.Omega.{arith}
 use lib.ListN.{length, getD}
 use lib.Dec.{eqb}
 use borrow.Author.Tests.{eq-eqb, ne-eqb}
-use Rattle.octets.specs.Number.{byteAt, Reads}
+use Rattle.octets.specs.Number.{byteAt}
+use Rattle.octets.specs.Premises.{Reads}
 use Rattle.octets.proofs.Tests.{told-no, told-yes}
 use Rattle.entries.specs.Rules.{through}
 use Rattle.words.specs.Words.{wordAt, wordsIn}
 use Rattle.words.proofs.WordsLaws.{words-length, words-at}
-use Rattle.names.specs.Lookup.{nameIn, indexOf}
-use Rattle.names.specs.declared.lookup.Found.{Found}
-use Rattle.names.specs.declared.lookup.Found.the-variants.{At, Nothing}
+use Rattle.lookups.specs.Lookup.{nameIn}
+use Rattle.lookups.specs.LookupWords.{indexOf}
+use Rattle.lookups.specs.declared.lookup.Found.{Found}
+use Rattle.lookups.specs.declared.lookup.Found.the-variants.{At, Nothing}
 use Rattle.ring.specs.declared.step.Taken.the-variants.{Edge, Missing}
-use Rattle.ring.specs.Ring.{nodeStep, nodeWith, endsWith, found, endIn, nodeAt, step, stepOf, takenWith, takenOf, usageGood}
+use Rattle.ring.specs.Walk.{endsWith, nodeAt, takenWith, takenOf}
+use Rattle.items.specs.Word.{endIn}
+use Rattle.ring.specs.Ring.{nodeStep, nodeWith, found, step, stepOf, usageGood}
 
 -- ---- one pointer of an edge: b is its TOPI
 module _ (topi node b : ℕ) (e : List ℕ) (is : b ≡ byteAt e 7) where

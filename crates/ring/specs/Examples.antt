@@ -7,9 +7,13 @@ use Rattle.octets.specs.Number.{numAt}
 use Rattle.entries.specs.Rules.{through}
 use Rattle.items.specs.Identity.{rankOf, nameFrom}
 use Rattle.items.specs.Item.{Item}
-use Rattle.names.specs.Lookup.{nameIn, indexFrom, indexOf, foundCode}
-use Rattle.pointer.specs.Pointer.{firstCode, namesCode}
-use Rattle.ring.specs.Ring.{nodeStep, nodeWith, found, stepOf, usageGood, along, ringsFrom, ringsGood, ringCode, endsWith, endIn, nodeAt, areaCode}
+use Rattle.lookups.specs.Lookup.{nameIn, foundCode}
+use Rattle.lookups.specs.LookupWords.{indexFrom, indexOf}
+use Rattle.pointer.specs.Pointer.{namesCode}
+use Rattle.answers.specs.First.{firstBy}
+use Rattle.ring.specs.Walk.{endsWith, nodeAt, areaCode}
+use Rattle.items.specs.Word.{endIn}
+use Rattle.ring.specs.Ring.{nodeStep, nodeWith, found, stepOf, usageGood, along, ringsFrom, ringsGood, ringCode}
 
 -- ---- an edge's pointers: NAME of a connected node, ORNT, USAG, TOPI, MASK
 unfoldable pointer : ℕ → ℕ → List ℕ
@@ -35,7 +39,7 @@ edge rcid ornt usag = 130 ∷ rcid ∷ 0 ∷ 0 ∷ 0 ∷ ornt ∷ usag ∷ 2 ∷
 
 -- an area with these pointers
 unfoldable area : List (List ℕ) → Item
-area es = record { place = 0; rcnm = 100; rcid = 1; prim = 3; objl = 42; foid = 0; entries = λ k. es }
+area es = record { rcnm = 100; rcid = 1; version = 1; prim = 3; grup = 2; objl = 42; foid = 0; lists = λ k. es }
 
 -- "ORNT 2 reversed": 1 forward, 2 forward, 3 reversed is a ring
 triangle : ringCode corner (area (edge 1 1 1 ∷ edge 2 1 1 ∷ edge 3 2 1 ∷ [])) ≡ 0
@@ -79,9 +83,9 @@ second-exterior = refl
 
 -- Pointer comes before Ring: of two edges that run in no ring the second is missing
 missing-first : areaCode (indexOf (word 1 ∷ [])) corner (edge 1 1 1 ∷ edge 3 1 1 ∷ []) ≡ 18
-unfolding word corner edge numAt rankOf nameFrom nameIn indexFrom indexOf foundCode firstCode namesCode found endIn nodeAt stepOf usageGood along ringsFrom ringsGood areaCode
+unfolding word corner edge numAt rankOf nameFrom nameIn indexFrom indexOf foundCode firstBy namesCode found endIn nodeAt stepOf usageGood along ringsFrom ringsGood areaCode
 missing-first = refl
 
 both-there : areaCode (indexOf (word 1 ∷ word 3 ∷ [])) corner (edge 1 1 1 ∷ edge 3 1 1 ∷ []) ≡ 19
-unfolding word corner edge numAt rankOf nameFrom nameIn indexFrom indexOf foundCode firstCode namesCode found endIn nodeAt stepOf usageGood along ringsFrom ringsGood areaCode
+unfolding word corner edge numAt rankOf nameFrom nameIn indexFrom indexOf foundCode firstBy namesCode found endIn nodeAt stepOf usageGood along ringsFrom ringsGood areaCode
 both-there = refl

@@ -3,25 +3,27 @@ ghost use Prim.Native.Nat.{_≤_, _<_};
 ghost use mathlib.Core.Path.{_≡_};
 ghost use lib.ListN.{length};
 ghost use Rattle.table.specs.Table.{VRPT};
-ghost use Rattle.items.specs.Lists.{entriesAt, Listed};
-ghost use Rattle.ring.specs.Ring.{nodeStep, endsWith};
+ghost use Rattle.items.specs.Lists.{entriesAt};
+ghost use Rattle.ring.specs.Ring.{nodeStep};
 use iso8211::field::Head;
 use items::Next;
 use items::cursor::begin;
 use items::step::next;
+use items::word;
 use octets::number::get4;
 use octets::number::wide;
-
-// The list's number in the table.
-const VRPT: usize = 6;
+use table::kinds;
+use table::offsets;
+ghost use Rattle.items.specs.Premises.{Listed};
+ghost use Rattle.ring.specs.Walk.{endsWith};
 
 // The node that a VRPT names, if it has this TOPI; else the one before.
 fn node_step(topi: u32, node: u32, e: &[u8]) -> u32
     requires { ⌜ (9 ≤ length (now e)) × (node < 4294967296) ⌝ }
     ensures { λ r. ⌜ (r ≡ nodeStep topi node (now (e .entry))) × (r < 4294967296) ⌝ }
 {
-    if wide(e[7]) == topi {
-        return get4(e, 1);
+    if wide(e[offsets::VRPT_TOPI]) == topi {
+        return get4(e, offsets::RCID);
     }
     node
 }
@@ -35,8 +37,8 @@ pub fn ends_of(s: &[u8], at: usize, h: Head) -> u64
     let mut last: u32 = 0;
     let mut c = begin();
     loop {
-        let Next::Entry(from, to, after) = next(s, at, h, VRPT, c) else {
-            return first as u64 * 4294967296 + last as u64;
+        let Next::Entry(from, to, after) = next(s, at, h, kinds::VRPT, c) else {
+            return first as u64 * word::BEGIN_WEIGHT + last as u64;
         };
         first = node_step(1, first, &s[from..to]);
         last = node_step(2, last, &s[from..to]);

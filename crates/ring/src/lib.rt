@@ -5,10 +5,10 @@
 ghost use mathlib.Core.Path.{_≡_};
 ghost use Rattle.table.specs.Table.{FSPT};
 ghost use Rattle.words.specs.Words.{wordsIn};
-ghost use Rattle.items.specs.Lists.{entriesAt, Listed};
-ghost use Rattle.names.specs.Lookup.{indexOf};
-ghost use Rattle.names.specs.Held.{Noted};
-ghost use Rattle.ring.specs.Ring.{usageGood, nodeAt, areaClosed, areaCode};
+ghost use Rattle.items.specs.Lists.{entriesAt};
+ghost use Rattle.lookups.specs.LookupWords.{indexOf};
+ghost use Rattle.ring.specs.Ring.{usageGood};
+use answers::codes::RING;
 use iso8211::field::Head;
 use items::Next;
 use items::cursor::begin;
@@ -16,15 +16,16 @@ use items::step::next;
 use pointer::names_code;
 use step::Taken;
 use step::step_of;
+use table::kinds;
+ghost use Rattle.items.specs.Premises.{Listed};
+ghost use Rattle.names.specs.Premises.{Noted};
+ghost use Rattle.ring.specs.Walk.{nodeAt, areaClosed, areaCode};
 
 pub mod ends;
 pub mod step;
 
-// The list's number in the table.
-const FSPT: usize = 17;
-
-// Document 01's code.
-const RING: u32 = 19;
+// The begin and the end of the edge at `at` in one word.
+pub use ends::ends_of;
 
 // Whether an edge of the exterior ring, or of another, may have this USAG.
 fn usage_good(exterior: bool, usage: u32) -> bool
@@ -43,12 +44,13 @@ fn usage_good(exterior: bool, usage: u32) -> bool
 // edge before the cursor.
 fn rings_closed(s: &[u8], at: usize, h: Head, work: &[u8], m: usize, v: usize) -> bool
     requires { ⌜ Listed (now s) at h FSPT × Noted (now work) m v ⌝ }
-    ensures { λ r. ⌜ r ≡ areaClosed (indexOf (wordsIn (now (work .entry)) 0 m)) (nodeAt (wordsIn (now (work .entry)) 0 m) (wordsIn (now (work .entry)) m v)) (entriesAt (now (s .entry)) at FSPT) ⌝ }
+    ensures { λ r. ⌜ r ≡ areaClosed (indexOf (wordsIn (now (work .entry)) 0 m)) (nodeAt (wordsIn (now (work .entry)) 0 m) (wordsIn (now (work .entry)) m v))
+        (entriesAt (now (s .entry)) at FSPT) ⌝ }
 {
     let mut exterior = true;
     let mut c = begin();
     'rings: loop {
-        let Next::Entry(from, to, after) = next(s, at, h, FSPT, c) else {
+        let Next::Entry(from, to, after) = next(s, at, h, kinds::FSPT, c) else {
             return true;
         };
         let Taken::Edge(first) = step_of(&s[from..to], work, m, v) else {
@@ -65,7 +67,7 @@ fn rings_closed(s: &[u8], at: usize, h: Head, work: &[u8], m: usize, v: usize) -
                 exterior = false;
                 continue 'rings;
             }
-            let Next::Entry(from, to, after) = next(s, at, h, FSPT, c) else {
+            let Next::Entry(from, to, after) = next(s, at, h, kinds::FSPT, c) else {
                 break 'rings;
             };
             let Taken::Edge(u) = step_of(&s[from..to], work, m, v) else {
@@ -85,12 +87,13 @@ fn rings_closed(s: &[u8], at: usize, h: Head, work: &[u8], m: usize, v: usize) -
 // vectors. Only of an area with a fault the names are looked up again, to tell which it is.
 pub fn area_code(s: &[u8], at: usize, h: Head, work: &[u8], m: usize, v: usize) -> u32
     requires { ⌜ Listed (now s) at h FSPT × Noted (now work) m v ⌝ }
-    ensures { λ r. ⌜ r ≡ areaCode (indexOf (wordsIn (now (work .entry)) 0 m)) (nodeAt (wordsIn (now (work .entry)) 0 m) (wordsIn (now (work .entry)) m v)) (entriesAt (now (s .entry)) at FSPT) ⌝ }
+    ensures { λ r. ⌜ r ≡ areaCode (indexOf (wordsIn (now (work .entry)) 0 m)) (nodeAt (wordsIn (now (work .entry)) 0 m) (wordsIn (now (work .entry)) m v))
+        (entriesAt (now (s .entry)) at FSPT) ⌝ }
 {
     if rings_closed(s, at, h, work, m, v) {
         return 0;
     }
-    let missing = names_code(s, at, h, FSPT, work, m, v);
+    let missing = names_code(s, at, h, kinds::FSPT, work, m, v);
     if missing != 0 {
         return missing;
     }

@@ -3,14 +3,16 @@ ghost use Prim.Native.Nat.{_≤_};
 ghost use mathlib.Core.Path.{_≡_};
 ghost use lib.ListN.{length, getD};
 ghost use Rattle.words.specs.Words.{wordsIn};
-ghost use Rattle.names.specs.Lookup.{indexOf};
-ghost use Rattle.names.specs.Held.{Noted};
-ghost use Rattle.ring.specs.Ring.{takenOf, nodeAt};
-use names::lookup::Found;
-use names::lookup::index_of;
-use names::lookup::name_in;
+ghost use Rattle.lookups.specs.LookupWords.{indexOf};
+use items::word;
+use lookups::lookup::Found;
+use lookups::lookup::index_of;
+use lookups::lookup::name_in;
 use octets::number::wide;
+use table::offsets;
 use words::get;
+ghost use Rattle.names.specs.Premises.{Noted};
+ghost use Rattle.ring.specs.Walk.{takenOf, nodeAt};
 
 // The node at which it starts, the node at which it ends, and its USAG.
 pub struct Step {
@@ -45,10 +47,10 @@ pub fn step_of(e: &[u8], work: &[u8], m: usize, v: usize) -> Taken
         return Taken::Missing;
     };
     let ends = ends_at(work, m, v, i);
-    let begin = (ends / 4294967296) as u32;
-    let end = (ends % 4294967296) as u32;
-    let usage = wide(e[6]);
-    if e[5] == 2 {
+    let begin = (ends / word::BEGIN_WEIGHT) as u32;
+    let end = (ends % word::BEGIN_WEIGHT) as u32;
+    let usage = wide(e[offsets::FSPT_USAG]);
+    if e[offsets::FSPT_ORNT] == 2 {
         return Taken::Edge(Step {
             from: end,
             to: begin,

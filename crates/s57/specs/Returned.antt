@@ -4,10 +4,10 @@ use Prim.Native.Nat.{ℕ}
 use mathlib.Core.List.{List}
 use mathlib.Core.Path.{_≡_}
 use lib.ListN.{length, replicate}
-use Rattle.loader.specs.Judge.{judgeOf}
+use Rattle.judging.specs.Judge.{judgeOf}
 use Rattle.loader.specs.Admit.{admitOf, admitArea}
 use Rattle.loader.specs.Apply.{applyOf, applyArea}
-use Rattle.loader.specs.Answer.{answerArea}
+use Rattle.answers.specs.Sixteen.{answerArea}
 
 -- `s57_judge`: the code is r; the answer area, which was `answer`, is `told`; the work area, which was `work`, is `after`
 pub record Judged (cell work answer told after : List ℕ) (r : ℕ) : Type 0 where

@@ -3,10 +3,10 @@
 // accepts all bytes and all areas; the work area is zero afterwards, and after a refusal the output is
 // as it was. The archive of this crate is what a host links.
 ghost use Rattle.s57.specs.Returned.{Judged, Admitted, Applied};
+use answers::sixteen::put_answer;
 use apply::apply;
+use judging::judge::judge;
 use loader::admit::admit;
-use loader::answer::put_answer;
-use loader::judge::judge;
 
 #[no_mangle]
 pub extern "C" fn s57_judge(cell: &[u8], work: &mut [u8], answer: &mut [u8]) -> u32
@@ -34,7 +34,8 @@ pub extern "C" fn s57_apply(
     work: &mut [u8],
     answer: &mut [u8],
 ) -> u32
-    ensures { λ r. ⌜ Applied (now (cell .entry)) (now (update .entry)) (now (out .entry)) (now (work .entry)) (now (answer .entry)) (now (out .exit)) (now (answer .exit)) (now (work .exit)) r ⌝ }
+    ensures { λ r. ⌜ Applied (now (cell .entry)) (now (update .entry)) (now (out .entry)) (now (work .entry)) (now (answer .entry)) (now (out .exit)) (now (answer .exit))
+        (now (work .exit)) r ⌝ }
 {
     let a = apply(cell, update, out, work);
     put_answer(a, answer);

@@ -2,7 +2,8 @@
 ghost use Prim.Native.Nat.{_≤_};
 ghost use mathlib.Core.Path.{_≡_};
 ghost use lib.ListN.{length};
-ghost use Rattle.shape.specs.Shape.{isNode, pointGood, oneOrTwo, lineGood, areaGood, spatialGood, spatialCount};
+ghost use Rattle.vectorshape.specs.Shape.{isNode, pointGood, oneOrTwo, lineGood, areaGood, spatialGood, spatialCount};
+use table::offsets;
 
 fn is_node(v: u8) -> bool
     ensures { λ r. ⌜ r ≡ isNode v ⌝ }
@@ -21,13 +22,13 @@ fn point_good(e: &[u8]) -> bool
     if !is_node(e[0]) {
         return false;
     }
-    if e[5] != 255 {
+    if e[offsets::FSPT_ORNT] != 255 {
         return false;
     }
-    if e[6] != 255 {
+    if e[offsets::FSPT_USAG] != 255 {
         return false;
     }
-    e[7] == 255
+    e[offsets::FSPT_MASK] == 255
 }
 
 fn one_or_two(v: u8) -> bool
@@ -47,13 +48,13 @@ fn line_good(e: &[u8]) -> bool
     if e[0] != 130 {
         return false;
     }
-    if !one_or_two(e[5]) {
+    if !one_or_two(e[offsets::FSPT_ORNT]) {
         return false;
     }
-    if e[6] != 255 {
+    if e[offsets::FSPT_USAG] != 255 {
         return false;
     }
-    let mask = e[7];
+    let mask = e[offsets::FSPT_MASK];
     one_or_two(mask)
 }
 
@@ -65,17 +66,17 @@ fn area_good(e: &[u8]) -> bool
     if e[0] != 130 {
         return false;
     }
-    if !one_or_two(e[5]) {
+    if !one_or_two(e[offsets::FSPT_ORNT]) {
         return false;
     }
-    let usage = e[6];
+    let usage = e[offsets::FSPT_USAG];
     if usage == 3 {
-        return e[7] == 255;
+        return e[offsets::FSPT_MASK] == 255;
     }
     if !one_or_two(usage) {
         return false;
     }
-    one_or_two(e[7])
+    one_or_two(e[offsets::FSPT_MASK])
 }
 
 pub fn spatial_good(e: &[u8], prim: u32) -> bool

@@ -1,42 +1,41 @@
 -- Laws of the call: the codes in document 01's order, one law for each way out. Assumes nothing.
 use Prim.Native.Nat.{ℕ, _+_, _*_, _≤_, _<_}
-use mathlib.Core.Bool.{true, false}
+use mathlib.Core.Bool.{false}
 use mathlib.Core.List.{List}
-use mathlib.Core.Logic.{⊎-elim}
 use mathlib.Core.Path.{_≡_, sym, ap, _∙_}
 use native.Mathlib.Omega.{arith}
 use lib.ListN.{length}
 use lib.Dec.{eqb}
-use borrow.Author.Tests.{eq-eqb, ne-eqb, lt-ltb, le-ltb, eqb-true, eqb-false}
-use Rattle.octets.proofs.Cases.{true-or-false}
-use Rattle.chart.specs.Read.{readFault}
-use Rattle.chart.specs.declared.read.Refusal.{Refusal}
-use Rattle.names.specs.Names.{firstItem, twiceOf}
-use Rattle.names.specs.Held.{HeldIn}
-use Rattle.reader.specs.Reader.{answer, filed, frontOf, twiceRefusal, cellFault, updateFault, workAnswer, cellChecked, firstRefusal, bothChecked, Short, BothOpened, BothIn}
-use Rattle.reader.specs.declared.answer.Answer.{Answer}
+use borrow.Author.Tests.{eq-eqb, ne-eqb}
+use Rattle.names.specs.Names.{firstItem}
+use Rattle.names.specs.Premises.{HeldIn}
+use Rattle.reader.specs.Reader.{frontOf, cellFault, cellChecked, bothChecked, bothFault, fronted}
 use Rattle.reader.specs.declared.front.Front.{Front}
 use Rattle.reader.specs.declared.front.Front.the-variants.{Count, Refused}
-use Rattle.reader.proofs.ReaderLaws.{cell-good}
-use Rattle.reader.proofs.BothLaws.{filed-code, both-cell-none, both-update-none, both-cell-good, both-update-good}
-use Rattle.loader.specs.Answer.{answerArea}
-use Rattle.loader.proofs.AdmitLaws.{fault-told}
-use Rattle.show.specs.Show.{cellSight, bothSight, afterReading, aloneSight, pairSight, secondSight, updateSight, firstSight, sightOf}
-use Rattle.show.specs.Show.{sightAnswer, sightBytes, showOf, shownPart}
+use Rattle.reader.proofs.ReaderLaws.{cell-good, cell-parts, update-parts}
+use Rattle.readboth.proofs.BothLaws.{both-cell-none, both-update-none, both-cell-good, both-update-good}
+use Rattle.show.specs.Show.{cellSight, bothSight, afterReading, aloneSight, pairSight, updateSight, sightOf, sightAnswer, sightBytes, showOf, shownPart}
 use Rattle.show.specs.Listed.{Listed, BothListed}
 use Rattle.show.specs.declared.sight.Sight.{Sight}
 use Rattle.show.specs.declared.sight.Sight.the-variants.{Denied}
+use Rattle.answers.specs.declared.refusal.Refusal.{Refusal}
+use Rattle.answers.specs.Answer.{answer, filed}
+use Rattle.reader.specs.Lent.{FileOpened, BothOpened, BothIn}
+use Rattle.answers.specs.declared.answer.Answer.{Answer}
+use Rattle.readboth.proofs.CallLaws.{work-short, work-on}
+use Rattle.answers.proofs.AnswerLaws.{filed-code}
+use Rattle.answers.specs.Sixteen.{answerArea}
 
 -- ---- alone
 module _ (cell : List ℕ) (n w rcnm rcid : ℕ) where
   pub alone-work : (a : Answer) → w < 16 * n → a ≡ answer 3 0 0 (16 * n) 0 → Denied a ≡ aloneSight cell n w rcnm rcid
-  unfolding aloneSight afterReading cellChecked workAnswer
-  alone-work a h e = rw (lt-ltb w (16 * n) h, e)
+  unfolding aloneSight afterReading cellChecked
+  alone-work a h e = rw (work-short w n (filed 1 (cellFault cell n)) h, e)
 
   module _ (room : 16 * n ≤ w) (r : Refusal) (is : r ≡ cellFault cell n) where
     alone-checked : cellChecked cell w n ≡ filed 1 r
-    unfolding cellChecked workAnswer
-    alone-checked = rw (le-ltb w (16 * n) room, is)
+    unfolding cellChecked
+    alone-checked = work-on w n (filed 1 (cellFault cell n)) room ∙ rw is
 
     pub alone-filed : (a : Answer) → (r .code ≡ 0 → ⊥) → a ≡ filed 1 r → Denied a ≡ aloneSight cell n w rcnm rcid
     unfolding aloneSight afterReading
@@ -48,37 +47,28 @@ module _ (cell : List ℕ) (n w rcnm rcid : ℕ) where
     alone-on t none e = rw (alone-checked, eq-eqb (filed 1 r .code) 0 (filed-code 1 r ∙ none)) e
 
 -- the words of a cell that isn't refused
-pub alone-listed : (cell work : List ℕ) (n : ℕ) (r : Refusal) → r ≡ cellFault cell n → r .code ≡ 0 → Short cell n → 16 * n ≤ length work → HeldIn cell n work
+pub alone-listed : (cell work : List ℕ) (n : ℕ) (r : Refusal) → r ≡ cellFault cell n → r .code ≡ 0 → FileOpened cell n → 16 * n ≤ length work → HeldIn cell n work
     → Listed false cell n work 0
 unfolding firstItem
 alone-listed cell work n r is none so room held =
     let z : cellFault cell n .code ≡ 0 = ap (λ (q : Refusal). q .code) (sym is) ∙ none in
     record {
       good = cell-good cell n (so .framed) (so .short) z;
-      once = fault-told cell n z .1;
+      once = cell-parts cell n z .1;
       room = omega arith;
       words = held .words;
     }
 
 -- ---- pair
-pub update-once : (s : List ℕ) (m : ℕ) → updateFault s m .code ≡ 0 → twiceOf true s m .index ≡ 0
-unfolding updateFault twiceRefusal
-update-once s m h =
-    ⊎-elim (λ (r : eqb (readFault true s m .code) 0 ≡ true).
-    ⊎-elim (λ (t : eqb (twiceOf true s m .index) 0 ≡ true). eqb-true _ _ t)
-    (λ (t : eqb (twiceOf true s m .index) 0 ≡ false). absurd (let z : _≡_ {A = ℕ} 7 0 = rw (r, t) at h in omega arith)) (true-or-false (eqb (twiceOf true s m .index) 0)))
-    (λ (r : eqb (readFault true s m .code) 0 ≡ false). absurd (eqb-false (readFault true s m .code) 0 r (rw r at h)))
-    (true-or-false (eqb (readFault true s m .code) 0))
-
 module _ (cell : List ℕ) (n : ℕ) (update : List ℕ) (m w rcnm rcid : ℕ) where
   pub pair-work : (a : Answer) → w < 16 * (n + m) → a ≡ answer 3 0 0 (16 * (n + m)) 0 → Denied a ≡ pairSight cell n update m w rcnm rcid
-  unfolding pairSight afterReading bothChecked workAnswer
-  pair-work a h e = rw (lt-ltb w (16 * (n + m)) h, e)
+  unfolding pairSight afterReading bothChecked
+  pair-work a h e = rw (work-short w (n + m) (bothFault cell n update m) h, e)
 
-  module _ (room : 16 * (n + m) ≤ w) (a : Answer) (is : a ≡ firstRefusal (cellFault cell n) (filed 2 (updateFault update m))) where
+  module _ (room : 16 * (n + m) ≤ w) (a : Answer) (is : a ≡ bothFault cell n update m) where
     pair-checked : bothChecked cell update w n m ≡ a
-    unfolding bothChecked workAnswer
-    pair-checked = rw (le-ltb w (16 * (n + m)) room, is)
+    unfolding bothChecked
+    pair-checked = work-on w (n + m) (bothFault cell n update m) room ∙ sym is
 
     pub pair-filed : (a .code ≡ 0 → ⊥) → Denied a ≡ pairSight cell n update m w rcnm rcid
     unfolding pairSight afterReading
@@ -89,15 +79,15 @@ module _ (cell : List ℕ) (n : ℕ) (update : List ℕ) (m w rcnm rcid : ℕ) w
     pair-on t none e = rw (pair-checked, eq-eqb (a .code) 0 none) e
 
 -- the words of two files that aren't refused
-pub pair-listed : (cell update work : List ℕ) (n m : ℕ) (a : Answer) → a ≡ firstRefusal (cellFault cell n) (filed 2 (updateFault update m)) → a .code ≡ 0
-    → Short cell n → Short update m → 16 * (n + m) ≤ length work → BothIn cell n update m work → BothListed cell n update m work
+pub pair-listed : (cell update work : List ℕ) (n m : ℕ) (a : Answer) → a ≡ bothFault cell n update m → a .code ≡ 0
+    → FileOpened cell n → FileOpened update m → 16 * (n + m) ≤ length work → BothIn cell n update m work → BothListed cell n update m work
 unfolding firstItem
 pair-listed cell update work n m a is none held come room words =
     let o : BothOpened cell n update m work = record { held = held; come = come; room = room } in
-    let z : firstRefusal (cellFault cell n) (filed 2 (updateFault update m)) .code ≡ 0 = ap (λ (q : Answer). q .code) (sym is) ∙ none in
+    let z : bothFault cell n update m .code ≡ 0 = ap (λ (q : Answer). q .code) (sym is) ∙ none in
     record {
-      held = record { good = both-cell-good o z; once = fault-told cell n (both-cell-none o z) .1; room = omega arith; words = words .held };
-      come = record { good = both-update-good o z; once = update-once update m (both-update-none o z); room = omega arith; words = words .come };
+      held = record { good = both-cell-good o z; once = cell-parts cell n (both-cell-none o z) .1; room = omega arith; words = words .held };
+      come = record { good = both-update-good o z; once = update-parts update m (both-update-none o z) .1; room = omega arith; words = words .come };
     }
 
 -- ---- with_update
@@ -108,21 +98,21 @@ module _ (cell : List ℕ) (n : ℕ) (update : List ℕ) (w rcnm rcid : ℕ) whe
 
   module _ (some : length update ≡ 0 → ⊥) (f : Front) (is : f ≡ frontOf 2 update) where
     pub update-refused : (a : Answer) → f ≡ Refused a → Denied a ≡ updateSight cell n update w rcnm rcid
-    unfolding updateSight secondSight
+    unfolding updateSight fronted
     update-refused a told = rw (ne-eqb (length update) 0 some, ← is, told)
 
     pub update-counted : (m : ℕ) (t : Sight) → f ≡ Count m → t ≡ pairSight cell n update m w rcnm rcid → t ≡ updateSight cell n update w rcnm rcid
-    unfolding updateSight secondSight
+    unfolding updateSight fronted
     update-counted m t told e = rw (ne-eqb (length update) 0 some, ← is, told) e
 
 -- ---- seen
 module _ (cell update : List ℕ) (w rcnm rcid : ℕ) (f : Front) (is : f ≡ frontOf 1 cell) where
   pub seen-refused : (a : Answer) → f ≡ Refused a → Denied a ≡ sightOf cell update w rcnm rcid
-  unfolding sightOf firstSight
+  unfolding sightOf fronted
   seen-refused a told = rw (← is, told)
 
   pub seen-on : (n : ℕ) (t : Sight) → f ≡ Count n → t ≡ updateSight cell n update w rcnm rcid → t ≡ sightOf cell update w rcnm rcid
-  unfolding sightOf firstSight
+  unfolding sightOf fronted
   seen-on n t told e = rw (← is, told) e
 
 -- ---- show

@@ -1,35 +1,34 @@
 -- Show on readable files, said of their records and not of a walk: the update's record that has the name, else the cell's, else 22. Assumes nothing.
-use Prim.Native.Nat.{ℕ, _+_, _*_, _≤_, _<_}
+use Prim.Native.Nat.{ℕ, _+_, _≤_, _<_}
 use mathlib.Core.Bool.{true, false}
 use mathlib.Core.List.{List, []}
-use mathlib.Core.Logic.{⊎-elim}
-use mathlib.Core.Path.{_≡_, refl, sym, ap, _∙_}
+use mathlib.Core.Path.{_≡_, refl, ap, _∙_}
 use native.Mathlib.Omega.{arith}
 use lib.ListN.{length, take, drop}
-use lib.Dec.{eqb, ltb}
-use borrow.Author.Tests.{eq-eqb, ne-eqb, eqb-true, eqb-false}
+use borrow.Author.Tests.{eq-eqb, ne-eqb}
 use Rattle.octets.specs.Number.{byteAt}
-use Rattle.octets.proofs.Cases.{true-or-false}
 use Rattle.iso8211.specs.Leader.{sizeAt}
 use Rattle.iso8211.specs.File.{recordAt}
 use Rattle.iso8211.proofs.Promise.{records-few, last-ends}
-use Rattle.chart.specs.declared.read.Refusal.{Refusal}
-use Rattle.names.specs.Names.{firstItem, twiceOf, Readable}
-use Rattle.reader.specs.Reader.{answer, filed, frontOf, cellFault, updateFault, workAnswer, cellChecked, firstRefusal, bothChecked, Short}
-use Rattle.reader.specs.declared.answer.Answer.{Answer}
+use Rattle.names.specs.Premises.{Readable}
+use Rattle.names.specs.Names.{firstItem, twiceOf}
+use Rattle.reader.specs.Reader.{frontOf, cellFault, updateFault, cellChecked, bothChecked, bothFault, fronted}
 use Rattle.reader.specs.declared.front.Front.the-variants.{Count}
-use Rattle.reader.proofs.BothLaws.{filed-code}
-use Rattle.reader.proofs.CallLaws.{counted}
-use Rattle.reader.proofs.ReaderLaws.{cell-good, update-good}
-use Rattle.loader.proofs.AdmitLaws.{fault-told}
-use Rattle.show.specs.Named.{isClass, isNamed}
-use Rattle.show.specs.Show.{spanOf, foundSight, absent, cellSight, bothSight, afterReading, aloneSight, pairSight, secondSight, updateSight, firstSight, sightOf}
-use Rattle.show.specs.Show.{sightAnswer, bytesOfSpan, sightBytes, showOf, shownPart}
+use Rattle.readboth.proofs.CallLaws.{counted, work-told}
+use Rattle.reader.proofs.ReaderLaws.{cell-good, update-good, cell-parts, update-parts}
+use Rattle.shownames.specs.Named.{isNamed}
+use Rattle.shownames.specs.Premises.{isClass}
+use Rattle.show.specs.Show.{spanOf, foundSight, absent, cellSight, bothSight, afterReading, aloneSight, pairSight, updateSight, sightOf, sightAnswer, bytesOfSpan}
+use Rattle.show.specs.Show.{sightBytes, showOf, shownPart}
 use Rattle.show.specs.Place.{within, placeOfSpan, sightPlace, shownPlace}
 use Rattle.show.specs.declared.sight.Sight.{Sight}
 use Rattle.show.specs.declared.sight.Sight.the-variants.{Shown}
-use Rattle.show.proofs.NamedLaws.{named-only, named-none, other-class}
-use Rattle.show.proofs.CallLaws.{update-once}
+use Rattle.shownames.proofs.NamedLaws.{named-only, named-none, other-class}
+use Rattle.answers.specs.Answer.{answer, filed}
+use Rattle.reader.specs.Lent.{FileOpened}
+use Rattle.answers.specs.declared.answer.Answer.{Answer}
+use Rattle.answers.proofs.AnswerLaws.{filed-told}
+use Rattle.readboth.proofs.BothLaws.{both-apart}
 
 -- the whole bytes of record k
 abbrev pub recordBytes : List ℕ → ℕ → List ℕ
@@ -54,34 +53,21 @@ unfolding showOf shownPart shownPlace
 gives cell update w rcnm rcid sight e =
     record { answered = ap sightAnswer e; shown = ap (sightBytes cell update) e; lies = λ here there. ap (sightPlace here there) e }
 
--- ---- out of a reading without a code
-work-fine : (w n : ℕ) (on : Answer) → workAnswer w n on .code ≡ 0 → on .code ≡ 0
-unfolding workAnswer
-work-fine w n on z =
-    ⊎-elim (λ (t : ltb w (16 * n) ≡ true). absurd (let y : _≡_ {A = ℕ} 3 0 = rw t at z in omega arith)) (λ (f : ltb w (16 * n) ≡ false). rw f at z)
-    (true-or-false (ltb w (16 * n)))
-
-first-fine : (r u : Refusal) → firstRefusal r (filed 2 u) .code ≡ 0 → (r .code ≡ 0) × (u .code ≡ 0)
-unfolding firstRefusal
-first-fine r u z =
-    ⊎-elim (λ (t : eqb (r .code) 0 ≡ true). (eqb-true _ _ t, sym (filed-code 2 u) ∙ rw t at z))
-    (λ (f : eqb (r .code) 0 ≡ false). absurd (eqb-false (r .code) 0 f (sym (filed-code 1 r) ∙ rw f at z))) (true-or-false (eqb (r .code) 0))
-
 -- ---- a cell without an update
 module _ (cell update : List ℕ) (w n rcnm rcid : ℕ) (front : frontOf 1 cell ≡ Count n) (none : length update ≡ 0) (fine : cellChecked cell w n .code ≡ 0) where
   alone-sight : sightOf cell update w rcnm rcid ≡ cellSight cell n rcnm rcid
-  unfolding sightOf firstSight updateSight aloneSight afterReading
+  unfolding sightOf fronted updateSight aloneSight afterReading
   alone-sight = rw (front, eq-eqb (length update) 0 none, eq-eqb (cellChecked cell w n .code) 0 fine)
 
   alone-read : cellFault cell n .code ≡ 0
   unfolding cellChecked
-  alone-read = sym (filed-code 1 (cellFault cell n)) ∙ work-fine w n (filed 1 (cellFault cell n)) fine
+  alone-read = filed-told 1 (cellFault cell n) (work-told w n (filed 1 (cellFault cell n)) fine .2)
 
   alone-good : Readable false cell n
   alone-good = let so = counted 1 cell (frontOf 1 cell) n refl front in cell-good cell n (so .framed) (so .short) alone-read
 
   alone-once : twiceOf false cell n .index ≡ 0
-  alone-once = fault-told cell n alone-read .1
+  alone-once = cell-parts cell n alone-read .1
 
   pub alone-shown : (k : ℕ) → 3 ≤ k → k < n → isNamed cell (recordAt cell k) rcnm rcid ≡ true
       → Gives cell update w rcnm rcid (answer 0 0 0 (sizeAt cell (recordAt cell k)) 0) (recordBytes cell k) (ofCell (recordAt cell k))
@@ -101,20 +87,19 @@ module _ (cell update : List ℕ) (w n rcnm rcid : ℕ) (front : frontOf 1 cell 
 -- ---- a cell and an update, whichever cell that is of
 module _ (cell update : List ℕ) (w n m rcnm rcid : ℕ) (front : frontOf 1 cell ≡ Count n) (second : frontOf 2 update ≡ Count m)
     (fine : bothChecked cell update w n m .code ≡ 0) where
-  update-short : Short update m
+  update-short : FileOpened update m
   update-short = counted 2 update (frontOf 2 update) m refl second
 
   update-some : length update ≡ 0 → ⊥
   update-some z = let one = last-ends update m (update-short .framed) .0 in let few = records-few update m (update-short .framed) in omega arith
 
   pair-sight : sightOf cell update w rcnm rcid ≡ bothSight cell n update m rcnm rcid
-  unfolding sightOf firstSight updateSight secondSight pairSight afterReading
+  unfolding sightOf fronted updateSight pairSight afterReading
   pair-sight = rw (front, ne-eqb (length update) 0 update-some, second, eq-eqb (bothChecked cell update w n m .code) 0 fine)
 
   pair-read : (cellFault cell n .code ≡ 0) × (updateFault update m .code ≡ 0)
   unfolding bothChecked
-  pair-read =
-      first-fine (cellFault cell n) (updateFault update m) (work-fine w (n + m) (firstRefusal (cellFault cell n) (filed 2 (updateFault update m))) fine)
+  pair-read = both-apart cell n update m (work-told w (n + m) (bothFault cell n update m) fine .2)
 
   pair-held : Readable false cell n
   pair-held = let so = counted 1 cell (frontOf 1 cell) n refl front in cell-good cell n (so .framed) (so .short) (pair-read .0)
@@ -128,7 +113,7 @@ module _ (cell update : List ℕ) (w n m rcnm rcid : ℕ) (front : frontOf 1 cel
   unfolding bothSight foundSight spanOf sightAnswer sightBytes bytesOfSpan sightPlace placeOfSpan firstItem
   update-shown k low high is =
       gives cell update w rcnm rcid (Shown (spanOf true update (recordAt update k)))
-      (pair-sight ∙ rw (named-only pair-come (update-once update m (pair-read .1)) k rcnm rcid low high is))
+      (pair-sight ∙ rw (named-only pair-come (update-parts update m (pair-read .1) .1) k rcnm rcid low high is))
 
   module _ (lost : (k : ℕ) → 2 ≤ k → k < m → isNamed update (recordAt update k) rcnm rcid ≡ false) where
     rest-sight : sightOf cell update w rcnm rcid ≡ cellSight cell n rcnm rcid
@@ -141,7 +126,7 @@ module _ (cell update : List ℕ) (w n m rcnm rcid : ℕ) (front : frontOf 1 cel
     unfolding cellSight foundSight spanOf sightAnswer sightBytes bytesOfSpan sightPlace placeOfSpan firstItem
     cell-shown k low high is =
         gives cell update w rcnm rcid (Shown (spanOf false cell (recordAt cell k)))
-        (rest-sight ∙ rw (named-only pair-held (fault-told cell n (pair-read .0) .1) k rcnm rcid low high is))
+        (rest-sight ∙ rw (named-only pair-held (cell-parts cell n (pair-read .0) .1) k rcnm rcid low high is))
 
     -- "22 Absent: Show finds no such name"
     pub none-shown : ((k : ℕ) → 3 ≤ k → k < n → isNamed cell (recordAt cell k) rcnm rcid ≡ false) → Gives cell update w rcnm rcid (answer 22 0 0 0 0) [] (ofCell 0)
@@ -155,6 +140,6 @@ module _ (cell update : List ℕ) (w n m rcnm rcid : ℕ) (front : frontOf 1 cel
       gives cell update w rcnm rcid absent
       (pair-sight
       ∙ rw (
-        other-class pair-come (update-once update m (pair-read .1)) come rcnm rcid small other,
-        other-class pair-held (fault-told cell n (pair-read .0) .1) held rcnm rcid small other,
+        other-class pair-come (update-parts update m (pair-read .1) .1) come rcnm rcid small other,
+        other-class pair-held (cell-parts cell n (pair-read .0) .1) held rcnm rcid small other,
       ))

@@ -3,7 +3,7 @@ use Prim.Native.Nat.{ℕ, _+_}
 use mathlib.Core.Bool.{true, false}
 use mathlib.Core.List.{List}
 use mathlib.Core.Path.{_≡_, _∙_}
-use Rattle.reader.specs.declared.answer.Answer.{Answer}
+use Rattle.answers.specs.declared.answer.Answer.{Answer}
 use Rattle.show.specs.Show.{sightOf}
 use Rattle.show.specs.Place.{within, placeOfSpan, sightPlace, shownPlace}
 use Rattle.show.specs.declared.span.Span.{Span}

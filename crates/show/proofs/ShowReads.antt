@@ -10,32 +10,21 @@ use Rattle.iso8211.specs.Leader.{sizeAt}
 use Rattle.iso8211.specs.File.{frameOf}
 use Rattle.iso8211.specs.declared.file.Framed.the-variants.{Records}
 use Rattle.iso8211.proofs.Promise.{framed-at}
-use Rattle.chart.specs.Read.{readFault}
-use Rattle.names.specs.Names.{twiceOf}
-use Rattle.names.specs.declared.lookup.Found.{Found}
-use Rattle.names.specs.declared.lookup.Found.the-variants.{At, Nothing}
-use Rattle.reader.specs.Reader.{frontOf, twiceRefusal, cellFault, updateFault, cellChecked, bothChecked, Short}
-use Rattle.reader.specs.declared.answer.Answer.{Answer}
+use Rattle.lookups.specs.declared.lookup.Found.{Found}
+use Rattle.lookups.specs.declared.lookup.Found.the-variants.{At, Nothing}
+use Rattle.reader.specs.Lent.{FileOpened}
+use Rattle.reader.specs.Reader.{frontOf, cellFault, updateFault, cellChecked, bothChecked, fronted}
+use Rattle.answers.specs.declared.answer.Answer.{Answer}
 use Rattle.reader.specs.declared.front.Front.the-variants.{Count}
-use Rattle.reader.proofs.CallLaws.{counted}
-use Rattle.loader.specs.Answer.{answerBytes}
-use Rattle.loader.proofs.ReadLaws.{Few, few-made, few-cond, read-few, twice-few, cell-few}
-use Rattle.loader.proofs.ReadLaws.{Small, small-made, small-filed, small-work, small-first, front-cases, ReadsAs, bytes-read}
-use Rattle.show.specs.Named.{namedIn}
-use Rattle.show.specs.Show.{spanOf, foundSight, absent, cellSight, bothSight, afterReading, aloneSight, pairSight, secondSight, updateSight, firstSight, sightOf}
-use Rattle.show.specs.Show.{sightAnswer, showOf}
+use Rattle.readboth.proofs.CallLaws.{counted}
+use Rattle.answers.specs.Sixteen.{answerBytes}
+use Rattle.answers.proofs.SmallLaws.{Small, small-made, small-filed, small-first, ReadsAs, bytes-read}
+use Rattle.loader.proofs.ReadLaws.{cell-few, update-few, small-work, front-cases}
+use Rattle.shownames.specs.Named.{namedIn}
+use Rattle.show.specs.Show.{spanOf, foundSight, absent, cellSight, bothSight, afterReading, aloneSight, pairSight, updateSight, sightOf, sightAnswer, showOf}
 use Rattle.show.specs.declared.sight.Sight.{Sight}
 use Rattle.show.specs.declared.sight.Sight.the-variants.{Denied}
-use Rattle.show.proofs.NamedLaws.{named-record}
-
--- ---- codes 4 to 7 of an update
-update-few : (s : List ℕ) (m : ℕ) → Few (m + 3) (updateFault s m)
-unfolding updateFault twiceRefusal
-update-few s m =
-    few-cond (eqb (readFault true s m .code) 0)
-    (few-cond (eqb (twiceOf true s m .index) 0) (few-made 0 0 0 (omega arith) (omega arith))
-    (few-made 7 (twiceOf true s m .index) (twiceOf true s m .offset) (omega arith) (twice-few true s m)))
-    (read-few true s m)
+use Rattle.shownames.proofs.NamedLaws.{named-record}
 
 -- ---- what is seen, by its answer
 record SmallSight (sight : Sight) : Type 0 where
@@ -59,47 +48,50 @@ after-small a on small rest = pick (eqb (a .code) 0) where
   pick false = record { told = small }
 
 module _ (cell update : List ℕ) (w rcnm rcid : ℕ) where
-  cell-small : (n : ℕ) → Short cell n → SmallSight (cellSight cell n rcnm rcid)
+  cell-small : (n : ℕ) → FileOpened cell n → SmallSight (cellSight cell n rcnm rcid)
   unfolding cellSight absent sightAnswer
   cell-small n so =
       found-small false cell n rcnm rcid (namedIn false cell n rcnm rcid) absent (so .framed) refl
       (record { told = small-made 22 0 0 0 0 (omega arith) (omega arith) (omega arith) (omega arith) })
 
-  both-small : (n m : ℕ) → Short cell n → Short update m → SmallSight (bothSight cell n update m rcnm rcid)
+  both-small : (n m : ℕ) → FileOpened cell n → FileOpened update m → SmallSight (bothSight cell n update m rcnm rcid)
   unfolding bothSight
   both-small n m so too = found-small true update m rcnm rcid (namedIn true update m rcnm rcid) (cellSight cell n rcnm rcid) (too .framed) refl (cell-small n so)
 
-  alone-small : (n : ℕ) → n ≤ 5242880 → Short cell n → SmallSight (aloneSight cell n w rcnm rcid)
+  alone-small : (n : ℕ) → n ≤ 5242880 → FileOpened cell n → SmallSight (aloneSight cell n w rcnm rcid)
   unfolding aloneSight cellChecked
   alone-small n few so =
       after-small (cellChecked cell w n) (cellSight cell n rcnm rcid)
-      (small-work w n (omega arith) (small-filed 1 (cellFault cell n) (omega arith) (cell-few cell n) (omega arith))) (cell-small n so)
+      (small-first (small-work w n (omega arith)) (small-filed 1 (cellFault cell n) (omega arith) (cell-few cell n) (omega arith))) (cell-small n so)
 
-  pair-small : (n m : ℕ) → n ≤ 5242880 → m ≤ 5242880 → Short cell n → Short update m → SmallSight (pairSight cell n update m w rcnm rcid)
+  pair-small : (n m : ℕ) → n ≤ 5242880 → m ≤ 5242880 → FileOpened cell n → FileOpened update m → SmallSight (pairSight cell n update m w rcnm rcid)
   unfolding pairSight bothChecked
   pair-small n m held come so too =
       after-small (bothChecked cell update w n m) (bothSight cell n update m rcnm rcid)
-      (small-work w (n + m) (omega arith)
-      (small-first (cellFault cell n) (cell-few cell n) (omega arith) (small-filed 2 (updateFault update m) (omega arith) (update-few update m) (omega arith))))
+      (small-first (small-work w (n + m) (omega arith))
+      (small-first (small-filed 1 (cellFault cell n) (omega arith) (cell-few cell n) (omega arith))
+      (small-filed 2 (updateFault update m) (omega arith) (update-few update m) (omega arith))))
       (both-small n m so too)
 
-  second-small : (n : ℕ) → n ≤ 5242880 → Short cell n → SmallSight (secondSight cell n update w rcnm rcid (frontOf 2 update))
-  unfolding secondSight sightAnswer
+  second-small : (n : ℕ) → n ≤ 5242880 → FileOpened cell n → SmallSight (fronted Denied (λ (m : ℕ). pairSight cell n update m w rcnm rcid) (frontOf 2 update))
+  unfolding fronted sightAnswer
   second-small n held so =
-      front-cases (λ f. f ≡ frontOf 2 update → SmallSight (secondSight cell n update w rcnm rcid f)) 2 update (omega arith) (λ a small e. record { told = small })
+      front-cases (λ f. f ≡ frontOf 2 update → SmallSight (fronted Denied (λ (m : ℕ). pairSight cell n update m w rcnm rcid) f)) 2 update (omega arith)
+      (λ a small e. record { told = small })
       (λ m come e. pair-small n m held come so (counted 2 update (Count m) m e refl)) refl
 
-  with-small : (n : ℕ) → n ≤ 5242880 → Short cell n → SmallSight (updateSight cell n update w rcnm rcid)
+  with-small : (n : ℕ) → n ≤ 5242880 → FileOpened cell n → SmallSight (updateSight cell n update w rcnm rcid)
   unfolding updateSight
   with-small n held so = pick (eqb (length update) 0) where
-    pick : (b : Bool) → SmallSight (cond b (aloneSight cell n w rcnm rcid) (secondSight cell n update w rcnm rcid (frontOf 2 update)))
+    pick : (b : Bool) → SmallSight (cond b (aloneSight cell n w rcnm rcid) (fronted Denied (λ (m : ℕ). pairSight cell n update m w rcnm rcid) (frontOf 2 update)))
     pick true = alone-small n held so
     pick false = second-small n held so
 
   sight-small : SmallSight (sightOf cell update w rcnm rcid)
-  unfolding sightOf firstSight sightAnswer
+  unfolding sightOf fronted sightAnswer
   sight-small =
-      front-cases (λ f. f ≡ frontOf 1 cell → SmallSight (firstSight cell update w rcnm rcid f)) 1 cell (omega arith) (λ a small e. record { told = small })
+      front-cases (λ f. f ≡ frontOf 1 cell → SmallSight (fronted Denied (λ (n : ℕ). updateSight cell n update w rcnm rcid) f)) 1 cell (omega arith)
+      (λ a small e. record { told = small })
       (λ n held e. with-small n held (counted 1 cell (Count n) n e refl)) refl
 
   pub show-small : Small (showOf cell update w rcnm rcid)

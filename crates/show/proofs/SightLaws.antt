@@ -1,41 +1,43 @@
 -- Laws of what is seen: of a file by its words, of two files in order; and a part that is shown lies in its file. Assumes nothing.
 use Prim.Native.Nat.{ℕ, _+_, _-_, _*_, _≤_, _<_}
-use mathlib.Core.Bool.{Bool, true, false, cond}
+use mathlib.Core.Bool.{Bool, true, false}
 use mathlib.Core.List.{List, []}
 use mathlib.Core.Logic.{⊎-elim}
 use mathlib.Core.Path.{_≡_, refl, sym, ap, _∙_}
 use native.Mathlib.Omega.{arith}
 use lib.ListN.{length, take, drop}
-use lib.Dec.{eqb, ltb}
+use lib.Dec.{eqb}
 use borrow.Author.Tests.{eqb-false}
 use Rattle.octets.specs.Number.{byteAt}
 use Rattle.octets.proofs.Cases.{true-or-false}
 use Rattle.iso8211.specs.Leader.{sizeAt}
 use Rattle.iso8211.specs.Record.{endOf}
-use Rattle.iso8211.specs.Field.{FramedAt}
-use Rattle.iso8211.specs.File.{frameOf, recordAt}
-use Rattle.iso8211.specs.declared.file.Framed.{Framed}
-use Rattle.iso8211.specs.declared.file.Framed.the-variants.{Records, Broken}
+use Rattle.iso8211.specs.Premises.{FramedAt}
+use Rattle.iso8211.specs.File.{frameOf}
+use Rattle.iso8211.specs.declared.file.Framed.the-variants.{Records}
 use Rattle.iso8211.proofs.Promise.{framed-at}
 use Rattle.words.specs.Words.{wordsIn}
 use Rattle.words.specs.Order.{Sorted}
 use Rattle.words.proofs.OrderLaws.{sorted-in-order}
-use Rattle.names.specs.Names.{firstItem, nameWords}
-use Rattle.names.specs.declared.lookup.Found.{Found}
-use Rattle.names.specs.declared.lookup.Found.the-variants.{At, Nothing}
-use Rattle.reader.specs.Reader.{answer, framedFront, frontOf, cellChecked, bothChecked, Short}
-use Rattle.reader.specs.declared.answer.Answer.{Answer}
+use Rattle.names.specs.NameWords.{nameWords}
+use Rattle.names.specs.Names.{firstItem}
+use Rattle.lookups.specs.declared.lookup.Found.{Found}
+use Rattle.lookups.specs.declared.lookup.Found.the-variants.{At, Nothing}
+use Rattle.reader.specs.Reader.{frontOf, cellChecked, bothChecked, fronted}
 use Rattle.reader.specs.declared.front.Front.{Front}
 use Rattle.reader.specs.declared.front.Front.the-variants.{Count, Refused}
-use Rattle.reader.proofs.CallLaws.{counted}
-use Rattle.show.specs.Named.{namedIn}
-use Rattle.show.specs.Show.{spanOf, foundSight, absent, cellSight, bothSight, afterReading, aloneSight, pairSight, secondSight, updateSight, firstSight, sightOf}
-use Rattle.show.specs.Show.{sightAnswer, bytesOfSpan, sightBytes}
-use Rattle.show.specs.Listed.{placeNamed, Listed, BothListed, SpanIn, SightIn}
+use Rattle.readboth.proofs.CallLaws.{counted, front-refused}
+use Rattle.shownames.specs.Named.{namedIn}
+use Rattle.show.specs.Show.{spanOf, foundSight, absent, cellSight, bothSight, afterReading, aloneSight, pairSight, updateSight, sightOf, sightAnswer, bytesOfSpan, sightBytes}
+use Rattle.show.specs.Listed.{Listed, BothListed, SpanIn, SightIn}
+use Rattle.shownames.specs.Premises.{placeNamed}
 use Rattle.show.specs.declared.span.Span.{Span}
 use Rattle.show.specs.declared.sight.Sight.{Sight}
 use Rattle.show.specs.declared.sight.Sight.the-variants.{Shown, Denied}
-use Rattle.show.proofs.NamedLaws.{place-named, named-record}
+use Rattle.shownames.proofs.NamedLaws.{place-named, named-record}
+use Rattle.answers.specs.Answer.{answer}
+use Rattle.reader.specs.Lent.{FileOpened}
+use Rattle.answers.specs.declared.answer.Answer.{Answer}
 
 -- ---- a span
 pub span-told : (update : Bool) (s : List ℕ) (at e : ℕ) → e ≡ endOf s at → _≡_ {A = Span} (record { update = update; from = at; size = e - at }) (spanOf update s at)
@@ -160,18 +162,6 @@ module _ {cell update work : List ℕ} {n m : ℕ} (l : BothListed cell n update
     update-shown p span told e = rw (← update-found, told, e)
 
 -- ---- what is shown lies in its file, whatever was given, and a refusal has a code
-front-code : (long : Bool) (file : ℕ) (s : List ℕ) (f : Framed) (a : Answer) → Refused a ≡ cond long (Refused (answer 1 file 0 0 0)) (framedFront file s f) → a .code ≡ 0 → ⊥
-unfolding framedFront
-front-code true file s f a e z =
-    let same : a ≡ answer 1 file 0 0 0 = cc in let one : _≡_ {A = ℕ} 1 0 = sym (ap (λ (q : Answer). q .code) same) ∙ z in omega arith
-front-code false file s (Records n) a e z = let y : _≡_ {A = ℕ} 0 1 = cc in omega arith
-front-code false file s (Broken k) a e z =
-    let same : a ≡ answer 2 file k 0 (recordAt s k) = cc in let two : _≡_ {A = ℕ} 2 0 = sym (ap (λ (q : Answer). q .code) same) ∙ z in omega arith
-
-front-refused : (file : ℕ) (s : List ℕ) (a : Answer) → Refused a ≡ frontOf file s → a .code ≡ 0 → ⊥
-unfolding frontOf
-front-refused file s a e = front-code (ltb 5242880 (length s)) file s (frameOf s) a e
-
 module _ (cell update : List ℕ) where
   denied-in : (a : Answer) → (a .code ≡ 0 → ⊥) → SightIn cell update (Denied a)
   denied-in a some = record {
@@ -196,39 +186,39 @@ module _ (cell update : List ℕ) where
   after-in a on so =
       ⊎-elim (λ (t : eqb (a .code) 0 ≡ true). rw t so) (λ (f : eqb (a .code) 0 ≡ false). rw f (denied-in a (eqb-false (a .code) 0 f))) (true-or-false (eqb (a .code) 0))
 
-  cell-span : (n p rcnm rcid : ℕ) → Short cell n → namedIn false cell n rcnm rcid ≡ At p → SpanIn cell update (spanOf false cell p)
+  cell-span : (n p rcnm rcid : ℕ) → FileOpened cell n → namedIn false cell n rcnm rcid ≡ At p → SpanIn cell update (spanOf false cell p)
   unfolding spanOf
   cell-span n p rcnm rcid so told = record { inside = found-framed false cell n p rcnm rcid (so .framed) told .fits }
 
-  update-span : (m p rcnm rcid : ℕ) → Short update m → namedIn true update m rcnm rcid ≡ At p → SpanIn cell update (spanOf true update p)
+  update-span : (m p rcnm rcid : ℕ) → FileOpened update m → namedIn true update m rcnm rcid ≡ At p → SpanIn cell update (spanOf true update p)
   unfolding spanOf
   update-span m p rcnm rcid so told = record { inside = found-framed true update m p rcnm rcid (so .framed) told .fits }
 
   module _ (w rcnm rcid : ℕ) where
-    cell-in : (n : ℕ) → Short cell n → SightIn cell update (cellSight cell n rcnm rcid)
+    cell-in : (n : ℕ) → FileOpened cell n → SightIn cell update (cellSight cell n rcnm rcid)
     unfolding cellSight absent
     cell-in n so = found-in false cell (namedIn false cell n rcnm rcid) absent (λ p told. cell-span n p rcnm rcid so told) (denied-in (answer 22 0 0 0 0) (λ z. omega arith))
 
-    both-in : (n m : ℕ) → Short cell n → Short update m → SightIn cell update (bothSight cell n update m rcnm rcid)
+    both-in : (n m : ℕ) → FileOpened cell n → FileOpened update m → SightIn cell update (bothSight cell n update m rcnm rcid)
     unfolding bothSight
     both-in n m so too = found-in true update (namedIn true update m rcnm rcid) (cellSight cell n rcnm rcid) (λ p told. update-span m p rcnm rcid too told) (cell-in n so)
 
-    second-in : (n : ℕ) (f : Front) → f ≡ frontOf 2 update → Short cell n → SightIn cell update (secondSight cell n update w rcnm rcid f)
-    unfolding secondSight pairSight
+    second-in : (n : ℕ) (f : Front) → f ≡ frontOf 2 update → FileOpened cell n → SightIn cell update (fronted Denied (λ (m : ℕ). pairSight cell n update m w rcnm rcid) f)
+    unfolding fronted pairSight
     second-in n (Count m) e so =
         after-in (bothChecked cell update w n m) (bothSight cell n update m rcnm rcid) (both-in n m so (counted 2 update (Count m) m e refl))
-    second-in n (Refused a) e so = denied-in a (front-refused 2 update a e)
+    second-in n (Refused a) e so = denied-in a (front-refused 2 update a (sym e))
 
-    with-in : (n : ℕ) → Short cell n → SightIn cell update (updateSight cell n update w rcnm rcid)
+    with-in : (n : ℕ) → FileOpened cell n → SightIn cell update (updateSight cell n update w rcnm rcid)
     unfolding updateSight aloneSight
     with-in n so =
         ⊎-elim (λ (t : eqb (length update) 0 ≡ true). rw t (after-in (cellChecked cell w n) (cellSight cell n rcnm rcid) (cell-in n so)))
         (λ (f : eqb (length update) 0 ≡ false). rw f (second-in n (frontOf 2 update) refl so)) (true-or-false (eqb (length update) 0))
 
-    first-in : (f : Front) → f ≡ frontOf 1 cell → SightIn cell update (firstSight cell update w rcnm rcid f)
-    unfolding firstSight
+    first-in : (f : Front) → f ≡ frontOf 1 cell → SightIn cell update (fronted Denied (λ (n : ℕ). updateSight cell n update w rcnm rcid) f)
+    unfolding fronted
     first-in (Count n) e = with-in n (counted 1 cell (Count n) n e refl)
-    first-in (Refused a) e = denied-in a (front-refused 1 cell a e)
+    first-in (Refused a) e = denied-in a (front-refused 1 cell a (sym e))
 
     pub sight-in : (sight : Sight) → sight ≡ sightOf cell update w rcnm rcid → SightIn cell update sight
     unfolding sightOf

@@ -11,13 +11,14 @@ use Rattle.table.specs.Table.{rowOf, table, tagOf, asNumber}
 use Rattle.table.specs.Text.{bytes}
 use Rattle.items.specs.Identity.{rcnmAt, rcidAt}
 use Rattle.records.specs.Written.{tagBytes, bodyOf, rowsFor, longest, farthest, rowBytes, rowsBytes, baseFor, leaderOf, headOver, headBytes, recordBytes}
-use Rattle.objects.specs.Object.{isFeature, listPiece, listPieces, vridBytes, vectorPieces, featurePieces, objectPieces}
+use Rattle.items.specs.Item.{isFeature}
+use Rattle.itemfields.specs.Fields.{listPiece, listPieces, vridBytes, vectorPieces, featurePieces, itemPieces}
 use Rattle.loader.specs.BenchSheet.{end, vector, heldNode, heldEdge}
-use Rattle.reader.specs.Reader.{answer}
-use Rattle.show.specs.Named.{isNamed, namedFrom}
+use Rattle.shownames.specs.Named.{isNamed, namedFrom}
 use Rattle.show.specs.Show.{spanOf, foundSight, absent}
 use Rattle.show.specs.declared.sight.Sight.{Sight}
 use Rattle.show.specs.declared.sight.Sight.the-variants.{Shown, Denied}
+use Rattle.answers.specs.Answer.{answer}
 
 -- the connected node and the edge of document 01's bench sheet, one behind the other: 67 and 80 bytes, both with RCID 1
 unfoldable two : List ℕ
@@ -38,5 +39,5 @@ seen-by : (by 120 1 ∷ by 130 1 ∷ by 110 1 ∷ by 10 1 ∷ by 130 2 ∷ [])
 unfolding two by isNamed namedFrom spanOf foundSight absent end vector heldNode heldEdge
     numAt bytesOf isDigit digitsFrom numberAt digitsOf fewest fewestFrom tagAt rowAt rows countAt directoryAt fieldAt rcnmAt rcidAt
     rowOf table tagOf asNumber bytes tagBytes bodyOf rowsFor longest farthest rowBytes rowsBytes baseFor leaderOf headOver headBytes recordBytes
-    isFeature listPiece listPieces vridBytes vectorPieces featurePieces objectPieces flatten
+    isFeature listPiece listPieces vridBytes vectorPieces featurePieces itemPieces flatten
 seen-by = refl

@@ -1,5 +1,4 @@
 -- The notions of `show`, in the order in which a reader should meet them.
-pub mod Named
 pub mod Show
 pub mod Place
 pub mod Shows

@@ -6,20 +6,13 @@ use mathlib.Core.Path.{_≡_}
 use lib.ListN.{length}
 use Rattle.words.specs.Words.{wordsIn}
 use Rattle.words.specs.Order.{sorted}
-use Rattle.items.specs.Identity.{nameFrom}
-use Rattle.names.specs.Names.{firstItem, nameWords, twiceOf, Readable}
-use Rattle.names.specs.Lookup.{lookup}
-use Rattle.names.specs.declared.lookup.Found.{Found}
-use Rattle.names.specs.declared.lookup.Found.the-variants.{Nothing}
-use Rattle.reader.specs.declared.answer.Answer.{Answer}
-use Rattle.show.specs.Named.{isClass}
+use Rattle.names.specs.NameWords.{nameWords}
+use Rattle.names.specs.Premises.{Readable}
+use Rattle.names.specs.Names.{firstItem, twiceOf}
 use Rattle.show.specs.declared.span.Span.{Span}
 use Rattle.show.specs.declared.sight.Sight.{Sight}
 use Rattle.show.specs.declared.sight.Sight.the-variants.{Shown, Denied}
-
--- ---- the place of a name by words
-unfoldable pub placeNamed : List ℕ → ℕ → ℕ → Found
-placeNamed ws rcnm rcid = cond (isClass rcnm) (lookup ws (nameFrom rcnm rcid)) Nothing
+use Rattle.answers.specs.declared.answer.Answer.{Answer}
 
 -- ---- a readable file of n records without a name twice; the words of its vectors and features, in order, from word `from` of the work area on
 pub record Listed (update : Bool) (s : List ℕ) (n : ℕ) (work : List ℕ) (from : ℕ) : Type 0 where

@@ -5,13 +5,13 @@ use mathlib.Core.List.{List, []}
 use lib.ListN.{length, take, drop}
 use lib.Dec.{eqb}
 use Rattle.iso8211.specs.Leader.{sizeAt}
-use Rattle.names.specs.declared.lookup.Found.{Found}
-use Rattle.names.specs.declared.lookup.Found.the-variants.{At, Nothing}
-use Rattle.reader.specs.Reader.{answer, frontOf, cellChecked, bothChecked}
-use Rattle.reader.specs.declared.answer.Answer.{Answer}
-use Rattle.reader.specs.declared.front.Front.{Front}
-use Rattle.reader.specs.declared.front.Front.the-variants.{Count, Refused}
-use Rattle.show.specs.Named.{namedIn}
+use Rattle.lookups.specs.declared.lookup.Found.{Found}
+use Rattle.lookups.specs.declared.lookup.Found.the-variants.{At, Nothing}
+use Rattle.answers.specs.Codes.{ABSENT}
+use Rattle.answers.specs.Answer.{answer}
+use Rattle.reader.specs.Reader.{frontOf, fronted, cellChecked, bothChecked}
+use Rattle.answers.specs.declared.answer.Answer.{Answer}
+use Rattle.shownames.specs.Named.{namedIn}
 use Rattle.show.specs.declared.span.Span.{Span}
 use Rattle.show.specs.declared.sight.Sight.{Sight}
 use Rattle.show.specs.declared.sight.Sight.the-variants.{Shown, Denied}
@@ -28,7 +28,7 @@ foundSight update s Nothing on = on
 
 -- "22 Absent: Show finds no such name: 0, 0"
 unfoldable pub absent : Sight
-absent = Denied (answer 22 0 0 0 0)
+absent = Denied (answer ABSENT 0 0 0 0)
 
 -- a readable cell of n records
 unfoldable pub cellSight : List ℕ → ℕ → ℕ → ℕ → Sight
@@ -50,20 +50,14 @@ aloneSight cell n w rcnm rcid = afterReading (cellChecked cell w n) (cellSight c
 unfoldable pub pairSight : List ℕ → ℕ → List ℕ → ℕ → ℕ → ℕ → ℕ → Sight
 pairSight cell n update m w rcnm rcid = afterReading (bothChecked cell update w n m) (bothSight cell n update m rcnm rcid)
 
--- "cell 1, 2; update 1, 2", then these; "an update (length 0 here means none)"
-unfoldable pub secondSight : List ℕ → ℕ → List ℕ → ℕ → ℕ → ℕ → Front → Sight
-secondSight cell n update w rcnm rcid (Count m) = pairSight cell n update m w rcnm rcid
-secondSight cell n update w rcnm rcid (Refused a) = Denied a
-
+-- "update 1, 2", then these; "an update (length 0 here means none)"
 unfoldable pub updateSight : List ℕ → ℕ → List ℕ → ℕ → ℕ → ℕ → Sight
-updateSight cell n update w rcnm rcid = cond (eqb (length update) 0) (aloneSight cell n w rcnm rcid) (secondSight cell n update w rcnm rcid (frontOf 2 update))
+updateSight cell n update w rcnm rcid =
+    cond (eqb (length update) 0) (aloneSight cell n w rcnm rcid) (fronted Denied (λ (m : ℕ). pairSight cell n update m w rcnm rcid) (frontOf 2 update))
 
-unfoldable pub firstSight : List ℕ → List ℕ → ℕ → ℕ → ℕ → Front → Sight
-firstSight cell update w rcnm rcid (Count n) = updateSight cell n update w rcnm rcid
-firstSight cell update w rcnm rcid (Refused a) = Denied a
-
+-- "cell 1, 2", then these
 unfoldable pub sightOf : List ℕ → List ℕ → ℕ → ℕ → ℕ → Sight
-sightOf cell update w rcnm rcid = firstSight cell update w rcnm rcid (frontOf 1 cell)
+sightOf cell update w rcnm rcid = fronted Denied (λ (n : ℕ). updateSight cell n update w rcnm rcid) (frontOf 1 cell)
 
 -- ---- the answer: "0 done: 0, 0"; "Number: .. part length for Show"
 unfoldable pub sightAnswer : Sight → Answer

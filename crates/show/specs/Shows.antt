@@ -3,7 +3,7 @@ use Prim.Native.Nat.{ℕ}
 use mathlib.Core.List.{List}
 use mathlib.Core.Path.{_≡_}
 use lib.ListN.{length, replicate}
-use Rattle.loader.specs.Answer.{answerArea}
+use Rattle.answers.specs.Sixteen.{answerArea}
 use Rattle.show.specs.Show.{showOf, shownPart}
 use Rattle.show.specs.Place.{shownPlace}
 

@@ -1,26 +1,28 @@
 // The stages of Show, in document 01's order.
 ghost use mathlib.Core.Path.{_≡_};
 ghost use lib.ListN.{length, replicate};
-ghost use Rattle.reader.specs.Reader.{Short};
+ghost use Rattle.reader.specs.Lent.{FileOpened};
 ghost use Rattle.show.specs.Show.{aloneSight, pairSight, updateSight, sightOf};
 use crate::sight::Sight;
 use crate::sight::both_sight;
 use crate::sight::cell_sight;
+use answers::answer::answered;
+use answers::answer::filed;
+use answers::codes::WORK;
+use answers::codes::WORK_EACH;
 use octets::area::clear;
-use reader::answer::answered;
-use reader::answer::filed;
-use reader::both::both_fault;
+use readboth::both::both_fault;
 use reader::fault::cell_fault;
 use reader::front::Front;
 use reader::front::opened;
 
 // A framed cell of n records without an update: code 3, then 4 to 8, then 0 or 22.
 fn alone(cell: &[u8], n: usize, work: &mut [u8], rcnm: u32, rcid: u32) -> Sight
-    requires { ⌜ Short (now cell) n ⌝ }
+    requires { ⌜ FileOpened (now cell) n ⌝ }
     ensures { λ r. ⌜ r ≡ aloneSight (now (cell .entry)) n (length (now (work .entry))) rcnm rcid ⌝ }
 {
-    if work.len() < 16 * n {
-        return Sight::Denied(answered(3, 0, 0, 16 * n, 0));
+    if work.len() < WORK_EACH * n {
+        return Sight::Denied(answered(WORK, 0, 0, WORK_EACH * n, 0));
     }
     let r = cell_fault(cell, n, work);
     let code = r.code;
@@ -41,11 +43,11 @@ fn pair(
     rcnm: u32,
     rcid: u32,
 ) -> Sight
-    requires { ⌜ Short (now cell) n × Short (now update) m ⌝ }
+    requires { ⌜ FileOpened (now cell) n × FileOpened (now update) m ⌝ }
     ensures { λ r. ⌜ r ≡ pairSight (now (cell .entry)) n (now (update .entry)) m (length (now (work .entry))) rcnm rcid ⌝ }
 {
-    if work.len() < 16 * (n + m) {
-        return Sight::Denied(answered(3, 0, 0, 16 * (n + m), 0));
+    if work.len() < WORK_EACH * (n + m) {
+        return Sight::Denied(answered(WORK, 0, 0, WORK_EACH * (n + m), 0));
     }
     let a = both_fault(cell, n, update, m, work);
     let code = a.code;
@@ -57,7 +59,7 @@ fn pair(
 
 // A framed cell of n records, and an update that is still to be opened, if there is one.
 fn with_update(cell: &[u8], n: usize, update: &[u8], work: &mut [u8], rcnm: u32, rcid: u32) -> Sight
-    requires { ⌜ Short (now cell) n ⌝ }
+    requires { ⌜ FileOpened (now cell) n ⌝ }
     ensures { λ r. ⌜ r ≡ updateSight (now (cell .entry)) n (now (update .entry)) (length (now (work .entry))) rcnm rcid ⌝ }
 {
     if update.len() == 0 {

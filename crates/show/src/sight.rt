@@ -4,13 +4,14 @@ ghost use mathlib.Core.Path.{_≡_};
 ghost use Rattle.show.specs.Show.{cellSight, bothSight, sightAnswer, sightBytes};
 ghost use Rattle.show.specs.Place.{sightPlace};
 ghost use Rattle.show.specs.Listed.{Listed, BothListed, SightIn};
-use crate::named::place_named;
 use crate::span::Span;
 use crate::span::lent;
 use crate::span::span_of;
-use names::lookup::Found;
-use reader::Answer;
-use reader::answer::answered;
+use answers::Answer;
+use answers::answer::answered;
+use answers::codes::ABSENT;
+use lookups::lookup::Found;
+use shownames::named::place_named;
 
 // The record that is shown, or the answer of a refusal.
 pub enum Sight {
@@ -25,7 +26,7 @@ pub fn cell_sight(cell: &[u8], n: usize, work: &[u8], from: usize, rcnm: u32, rc
     ensures { λ r. ⌜ r ≡ cellSight (now (cell .entry)) n rcnm rcid ⌝ }
 {
     let Found::At(at) = place_named(work, from, n - 3, rcnm, rcid) else {
-        return Sight::Denied(answered(22, 0, 0, 0, 0));
+        return Sight::Denied(answered(ABSENT, 0, 0, 0, 0));
     };
     Sight::Shown(span_of(cell, at, false))
 }

@@ -2,7 +2,7 @@
 ghost use Prim.Native.Nat.{_+_, _≤_};
 ghost use mathlib.Core.Path.{_≡_};
 ghost use lib.ListN.{length, take, drop};
-ghost use Rattle.iso8211.specs.Field.{FramedAt};
+ghost use Rattle.iso8211.specs.Premises.{FramedAt};
 ghost use Rattle.show.specs.Show.{spanOf, bytesOfSpan};
 ghost use Rattle.show.specs.Place.{within, placeOfSpan};
 ghost use Rattle.show.specs.Listed.{SpanIn};

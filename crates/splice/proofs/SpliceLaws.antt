@@ -12,7 +12,8 @@ use Rattle.octets.proofs.AreaLaws.{wrote-join, wrote-as}
 use Rattle.octets.proofs.Tests.{told-no, told-yes}
 use Rattle.entries.specs.declared.Shape.{Shape}
 use Rattle.entries.specs.declared.Extent.{Extent}
-use Rattle.entries.specs.Entries.{entriesOf, Whole, place, extentOf}
+use Rattle.entries.specs.Entries.{entriesOf, extentOf}
+use Rattle.entries.specs.Premises.{Whole, place}
 use Rattle.entries.proofs.EntriesLaws.{flatten-append}
 use Rattle.entries.proofs.PlaceLaws.{place-front}
 use Rattle.edits.specs.Control.{gone, Allowed, edited, editedBy}

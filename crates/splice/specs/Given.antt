@@ -1,4 +1,4 @@
--- A control of the code, as `edits` takes it. Assumes nothing.
+-- A control of the code, as `edits` takes it. It serves the proofs, and nothing here need be believed. Assumes nothing.
 use Prim.Native.Nat.{_≤_}
 use mathlib.Core.Bool.{cond}
 use mathlib.Core.Option.{Option, none, some}

@@ -6,7 +6,7 @@ use mathlib.Core.Path.{_≡_}
 use lib.ListN.{length}
 use Rattle.octets.specs.Area.{Wrote}
 use Rattle.entries.specs.declared.Shape.{Shape}
-use Rattle.entries.specs.Entries.{Sound, Whole}
+use Rattle.entries.specs.Premises.{Sound, Whole}
 
 -- two lists of one shape
 pub record Two (sh : Shape) (held brought : List ℕ) : Type 0 where

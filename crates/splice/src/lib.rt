@@ -1,6 +1,11 @@
-// The edit of one list, on the bytes of its entries: those that are held and those that an update
-// brings are two slices, and the edited list is written into an area. It promises to the crates above
-// the bytes that `edits` defines: `put_spliced` by a control, `put_attributes` by the labels.
+// The edit of a list by its control, on the bytes of its entries: `put_spliced`. Held and brought entries
+// are two slices, and the edited list is written into an area. It promises the bytes that `edits` defines.
 pub mod control;
-pub mod labels;
 pub mod list;
+
+// The list edited by its control, written from `at` on: where it ends, or 0 where the control
+// may not act.
+pub use list::put_spliced;
+
+// The bytes of `src` between two places.
+pub use list::copy_part;

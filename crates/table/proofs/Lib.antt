@@ -1,2 +1,3 @@
 -- Laws of the table.
 pub mod TableLaws
+pub mod Agreement

@@ -5,6 +5,11 @@ ghost use mathlib.Core.Bool.{true, false};
 ghost use Prim.Native.Nat.{_≤_};
 ghost use Rattle.table.specs.Table.{kindOf, kindRow};
 
+pub mod kinds;
+pub mod offsets;
+pub mod sizes;
+pub mod tags;
+
 // What the table says of the layout of a field: the fixed bytes of a group and the width of the text
 // behind them (0: none), whether the group repeats, whether it is a control, the kind of record and
 // the place in it.
@@ -17,31 +22,31 @@ pub struct Kind {
     pub order: usize,
 }
 
-// The field of a tag by its number in the table; 18 for 0001, 19 for a tag that is none of these.
+// The field of a tag by its number in the table; also 0001, and a tag that is none of these.
 pub fn kind_of(tag: u32) -> usize
     ensures { λ r. ⌜ (r ≡ kindOf tag) × (r ≤ 19) ⌝ }
 {
     match tag {
-        0x44534944 => 0,
-        0x44535349 => 1,
-        0x4453504D => 2,
-        0x56524944 => 3,
-        0x41545456 => 4,
-        0x56525043 => 5,
-        0x56525054 => 6,
-        0x53474343 => 7,
-        0x53473244 => 8,
-        0x53473344 => 9,
-        0x46524944 => 10,
-        0x464F4944 => 11,
-        0x41545446 => 12,
-        0x4E415446 => 13,
-        0x46465043 => 14,
-        0x46465054 => 15,
-        0x46535043 => 16,
-        0x46535054 => 17,
-        0x30303031 => 18,
-        _ => 19,
+        tags::DSID => kinds::DSID,
+        tags::DSSI => kinds::DSSI,
+        tags::DSPM => kinds::DSPM,
+        tags::VRID => kinds::VRID,
+        tags::ATTV => kinds::ATTV,
+        tags::VRPC => kinds::VRPC,
+        tags::VRPT => kinds::VRPT,
+        tags::SGCC => kinds::SGCC,
+        tags::SG2D => kinds::SG2D,
+        tags::SG3D => kinds::SG3D,
+        tags::FRID => kinds::FRID,
+        tags::FOID => kinds::FOID,
+        tags::ATTF => kinds::ATTF,
+        tags::NATF => kinds::NATF,
+        tags::FFPC => kinds::FFPC,
+        tags::FFPT => kinds::FFPT,
+        tags::FSPC => kinds::FSPC,
+        tags::FSPT => kinds::FSPT,
+        tags::FIRST => kinds::FIRST,
+        _ => kinds::UNKNOWN,
     }
 }
 
@@ -78,7 +83,7 @@ fn control(group: usize, order: usize) -> Kind
     ensures { λ r. ⌜ r ≡ record { fixed = 5; unit = 0; list = false; control = true; group = group; order = order } ⌝ }
 {
     Kind {
-        fixed: 5,
+        fixed: sizes::CONTROL,
         unit: 0,
         list: false,
         control: true,
@@ -92,24 +97,24 @@ pub fn kind_row(k: usize) -> Kind
     ensures { λ r. ⌜ r ≡ kindRow k ⌝ }
 {
     match k {
-        0 => single(7, 1, 0, 1),
-        1 => single(35, 0, 0, 2),
-        2 => single(24, 1, 1, 1),
-        3 => single(8, 0, 2, 1),
-        4 => many(2, 1, 2, 2),
-        5 => control(2, 3),
-        6 => many(9, 0, 2, 4),
-        7 => control(2, 5),
-        8 => many(8, 0, 2, 6),
-        9 => many(12, 0, 2, 6),
-        10 => single(12, 0, 3, 1),
-        11 => single(8, 0, 3, 2),
-        12 => many(2, 1, 3, 3),
-        13 => many(2, 1, 3, 4),
-        14 => control(3, 5),
-        15 => many(9, 1, 3, 6),
-        16 => control(3, 7),
-        17 => many(8, 0, 3, 8),
-        _ => single(2, 0, 9, 0),
+        kinds::DSID => single(sizes::DSID, 1, 0, 1),
+        kinds::DSSI => single(sizes::DSSI, 0, 0, 2),
+        kinds::DSPM => single(sizes::DSPM, 1, 1, 1),
+        kinds::VRID => single(sizes::VRID, 0, 2, 1),
+        kinds::ATTV => many(sizes::ATTV, 1, 2, 2),
+        kinds::VRPC => control(2, 3),
+        kinds::VRPT => many(sizes::VRPT, 0, 2, 4),
+        kinds::SGCC => control(2, 5),
+        kinds::SG2D => many(sizes::SG2D, 0, 2, 6),
+        kinds::SG3D => many(sizes::SG3D, 0, 2, 6),
+        kinds::FRID => single(sizes::FRID, 0, 3, 1),
+        kinds::FOID => single(sizes::FOID, 0, 3, 2),
+        kinds::ATTF => many(sizes::ATTF, 1, 3, 3),
+        kinds::NATF => many(sizes::NATF, 1, 3, 4),
+        kinds::FFPC => control(3, 5),
+        kinds::FFPT => many(sizes::FFPT, 1, 3, 6),
+        kinds::FSPC => control(3, 7),
+        kinds::FSPT => many(sizes::FSPT, 0, 3, 8),
+        _ => single(sizes::FIRST, 0, 9, 0),
     }
 }

@@ -14,28 +14,33 @@ use Rattle.words.proofs.WordsLaws.{words-length, words-at, word-front, words-sp
 use Rattle.words.proofs.SortLaws.{sorts-before, sorts-in-order}
 use borrow.Author.Tests.{ne-eqb}
 use Rattle.octets.specs.Number.{byteAt}
-use Rattle.iso8211.specs.Field.{HeadOf}
+use Rattle.iso8211.specs.Premises.{HeadOf}
 use Rattle.iso8211.specs.declared.field.Head.{Head}
 use Rattle.table.specs.Table.{VRPT}
-use Rattle.items.specs.Lists.{entriesAt, Listed}
-use Rattle.items.specs.Identity.{foidAt, placeOf, Featured}
+use Rattle.items.specs.Premises.{Listed, Featured}
+use Rattle.items.specs.Lists.{entriesAt}
+use Rattle.items.specs.Identity.{rcnmAt, foidAt}
+use Rattle.items.specs.Word.{wordOffset, featureWord, rankIn}
 use Rattle.items.specs.Item.{itemAt}
 use Rattle.items.proofs.KindLaws.{vrpt-list}
-use Rattle.names.specs.Held.{itemsOf, Stands}
+use Rattle.items.proofs.ItemLaws.{vrpt-said, feature-said}
+use Rattle.names.specs.NameWords.{itemsAt}
+use Rattle.names.specs.Premises.{Stands}
 use Rattle.names.proofs.HeldLaws.{stand-rank, last-feature}
-use Rattle.ring.specs.Ring.{endsWith}
-use Rattle.topology.specs.Notes.{featureWord, rankIn, noteFor, notesFor, Ranked, Roomy, Beside, NotesPut, Prepared}
+use Rattle.ring.specs.Walk.{endsWith}
+use Rattle.topology.specs.Notes.{noteFor, notesFor, Ranked, Roomy, Beside, NotesPut, Prepared}
 use Rattle.topology.proofs.BesideLaws.{beside-same, beside-put, beside-sorts, beside-words}
 
 -- ---- the note of one item
 module _ {s : List ℕ} {at rank : ℕ} (ranked : Ranked s at rank) where
   pub note-foid : (r : ℕ) → rank ≡ 3 → r ≡ foidAt s at → r ≡ noteFor (itemAt s at)
   unfolding noteFor
-  note-foid r e told = told ∙ rw (← ranked .is, e)
+  note-foid r e told =
+      told ∙ rw (feature-said (rcnmAt s at) (foidAt s at) (last-feature _ (sym (ranked .is) ∙ e) (ranked .known .class)), ← ranked .is, e)
 
   pub note-ends : (r : ℕ) → rank ≡ 2 → r ≡ endsWith (entriesAt s at VRPT) → r ≡ noteFor (itemAt s at)
   unfolding noteFor
-  note-ends r e told = told ∙ rw (← ranked .is, e)
+  note-ends r e told = told ∙ rw (vrpt-said s at, ← ranked .is, e)
 
   pub note-none : (rank ≡ 3 → ⊥) → (rank ≡ 2 → ⊥) → 0 ≡ noteFor (itemAt s at)
   unfolding noteFor
@@ -47,7 +52,7 @@ module _ {s : List ℕ} {at rank : ℕ} (ranked : Ranked s at rank) where
   pub ranked-featured : rank ≡ 3 → Featured s at
   ranked-featured e = ranked .known .feature (last-feature _ (sym (ranked .is) ∙ e) (ranked .known .class))
 
-pub stands-ranked : {s : List ℕ} {w : ℕ} → Stands s w → ((i : ℕ) → byteAt s i < 256) → Ranked s (placeOf w) (rankIn w)
+pub stands-ranked : {s : List ℕ} {w : ℕ} → Stands s w → ((i : ℕ) → byteAt s i < 256) → Ranked s (wordOffset w) (rankIn w)
 stands-ranked stands bytes = record { laid = stands .laid; known = stands .known; is = stand-rank stands bytes }
 
 -- ---- while they are written: of all notes those of the first i of m words stand in `next`, and these are left
@@ -84,13 +89,13 @@ noting-done {notes} {a} {m} {i} {rest} {b} so none low high =
 
 -- ---- the same of the items of a file
 abbrev notesFrom : List ℕ → List ℕ → ℕ → ℕ → List ℕ
-notesFrom s work m i = notesFor (itemsOf s (wordsIn work i (m - i)))
+notesFrom s work m i = notesFor (itemsAt s (wordsIn work i (m - i)))
 
 pub record Filed (s work : List ℕ) (m i : ℕ) (next : List ℕ) : Type 0 where
-  pub so : Noting (notesFor (itemsOf s (wordsIn work 0 m))) work m i (notesFrom s work m i) next
+  pub so : Noting (notesFor (itemsAt s (wordsIn work 0 m))) work m i (notesFrom s work m i) next
 
 pub filed-start : (s work : List ℕ) (m : ℕ) → Filed s work m 0 work
-filed-start s work m = record { so = rw (sub-zero m) (noting-start (notesFor (itemsOf s (wordsIn work 0 m))) work m) }
+filed-start s work m = record { so = rw (sub-zero m) (noting-start (notesFor (itemsAt s (wordsIn work 0 m))) work m) }
 
 module _ {s a : List ℕ} {m i : ℕ} {b : List ℕ} (filed : Filed s a m i b) (roomy : Roomy s a m) (more : i < m) where
   pub filed-room : 8 * (m + i) + 8 ≤ length b
@@ -105,15 +110,15 @@ module _ {s a : List ℕ} {m i : ℕ} {b : List ℕ} (filed : Filed s a m i b) (
         let e : getD (wordsIn a 0 m) i 0 ≡ w = words-at a 0 m i more ∙ rw (zero-add i) (sym word-same) in
         rw e at (roomy .stand .each i (rw (words-length a 0 m) more))
 
-    pub filed-on : (note : ℕ) (c : List ℕ) → note ≡ noteFor (itemAt s (placeOf w)) → note < 2 ^ 64 → c ≡ putAt b (m + i) note → Filed s a m (i + 1) c
-    unfolding wordsIn itemsOf notesFor
+    pub filed-on : (note : ℕ) (c : List ℕ) → note ≡ noteFor (itemAt s (wordOffset w)) → note < 2 ^ 64 → c ≡ putAt b (m + i) note → Filed s a m (i + 1) c
+    unfolding wordsIn itemsAt notesFor
     filed-on note c told small put =
         let n : m - i ≡ suc (m - (i + 1)) = omega arith in
         let left : notesFrom s a m i ≡ note ∷ notesFrom s a m (i + 1) = rw (n, ← word-same, ← told, add-one i) in
         record { so = noting-on (filed .so) (roomy .room) more note (notesFrom s a m (i + 1)) c left small put }
 
-pub filed-done : {s a : List ℕ} {m i : ℕ} {b : List ℕ} → Filed s a m i b → i ≤ m → m ≤ i → NotesPut (notesFor (itemsOf s (wordsIn a 0 m))) a m b
-unfolding wordsIn itemsOf notesFor
+pub filed-done : {s a : List ℕ} {m i : ℕ} {b : List ℕ} → Filed s a m i b → i ≤ m → m ≤ i → NotesPut (notesFor (itemsAt s (wordsIn a 0 m))) a m b
+unfolding wordsIn itemsAt notesFor
 filed-done {s} {a} {m} {i} {b} filed low high = let z : m - i ≡ 0 = omega arith in noting-done (filed .so) (rw z) low high
 
 -- ---- the notes of the vectors stay, those of the features come into order

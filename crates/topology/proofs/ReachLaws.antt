@@ -6,26 +6,31 @@ use mathlib.Core.Logic.{⊎-elim}
 use mathlib.Core.Path.{_≡_, refl, sym, ap, _∙_, fun-ext}
 use native.Mathlib.Omega.{arith}
 use lib.ListN.{length, getD, take, drop}
-use lib.Dec.{eqb, ltb}
+use lib.Dec.{eqb}
 use borrow.Author.Tests.{eq-eqb, ne-eqb, eqb-true, lt-ltb, le-ltb}
 use Rattle.octets.proofs.Cases.{le-or-lt, eq-or-ne}
 use Rattle.table.specs.Table.{VRPT}
 use Rattle.words.specs.Words.{wordsIn}
-use Rattle.words.specs.Order.{Sorted, sorted, isIn}
+use Rattle.words.specs.Order.{Sorted, isIn}
 use Rattle.words.specs.Find.{firstFrom}
 use Rattle.words.proofs.OrderLaws.{sorted-tail, sorted-member}
-use Rattle.items.specs.Identity.{rcnmAt, rankOf, nameFrom, nameOf, placeOf}
+use Rattle.items.specs.Identity.{rcnmAt, rankOf, nameFrom}
+use Rattle.items.specs.Word.{nameOf, wordOffset, endIn, featureWord, rankIn}
 use Rattle.items.specs.Item.{Item, itemAt, itemName}
+use Rattle.items.proofs.ItemLaws.{vrpt-said}
 use Rattle.items.proofs.IdentityLaws.{rank-few, rank-edge}
-use Rattle.names.specs.Lookup.{indexFrom, indexOf}
-use Rattle.names.specs.Held.{itemsOf, placeFrom, placeIn, objectIn, Stands, AllStand}
-use Rattle.names.specs.declared.lookup.Found.{Found}
-use Rattle.names.specs.declared.lookup.Found.the-variants.{At, Nothing}
+use Rattle.names.specs.NameWords.{itemsAt}
+use Rattle.lookups.specs.LookupWords.{indexFrom, indexOf}
+use Rattle.names.specs.Premises.{Stands, AllStand}
+use Rattle.names.specs.Held.{placeFrom, placeIn, objectIn}
+use Rattle.lookups.specs.declared.lookup.Found.{Found}
+use Rattle.lookups.specs.declared.lookup.Found.the-variants.{At, Nothing}
 use Rattle.names.proofs.HeldLaws.{stand-first, stand-rest, stand-rank, stand-name, last-feature}
-use Rattle.pointer.specs.Pointer.{heldFoid}
-use Rattle.ring.specs.Ring.{nodeWith, nodeOf, nodesOf, found, nodeIn, endsWith, endIn, nodeAt}
+use Rattle.pointer.specs.Premises.{heldFoid}
+use Rattle.ring.specs.Walk.{endsWith, nodeAt}
+use Rattle.ring.specs.Ring.{nodeWith, nodeOf, nodesOf, found, nodeIn}
 use Rattle.topology.specs.Topology.{codeAmong}
-use Rattle.topology.specs.Notes.{featureWord, rankIn, noteFor, notesFor, notedCode, Prepared, Worded, AllWorded, worded-none, worded-more}
+use Rattle.topology.specs.Notes.{noteFor, notesFor, notedCode, Prepared, Worded, AllWorded, worded-none, worded-more}
 use Rattle.topology.proofs.BytesLaws.{Bytes, entries-bytes, node-few}
 
 -- ---- how many words stand below those of the features
@@ -103,7 +108,7 @@ module _ {i : Item} {w : ℕ} (worded : Worded i w) where
   unfolding nodeOf noteFor half endsWith
   node-edge begin two =
       rw (two, edge-only (i .rcnm) two)
-      (node-pick begin (i .entries VRPT) ∙ halves-apart begin (nodeWith 1 (i .entries VRPT)) (nodeWith 2 (i .entries VRPT)) (worded .few))
+      (node-pick begin (i .lists VRPT) ∙ halves-apart begin (nodeWith 1 (i .lists VRPT)) (nodeWith 2 (i .lists VRPT)) (worded .few))
 
   node-other : (begin : Bool) → w < featureWord → (rankOf (i .rcnm) ≡ 2 → ⊥) → nodeOf (cond begin 1 2) i ≡ half begin (noteFor i)
   unfolding nodeOf noteFor
@@ -196,18 +201,18 @@ module _ {is : List Item} {ws : List ℕ} {m : ℕ} {work : List ℕ} {v : ℕ} 
 -- ---- the items of a file, which is one of bytes, and their words
 -- a word with the item's name has the rank of its class
 pub name-rank : (i : Item) (w : ℕ) → nameOf w ≡ itemName i → i .rcid < 4294967296 → rankIn w ≡ rankOf (i .rcnm)
-unfolding itemName nameFrom
+unfolding nameFrom
 name-rank i w e small = omega arith
 
-stands-worded : {s : List ℕ} {w : ℕ} → Bytes s → Stands s w → Worded (itemAt s (placeOf w)) w
+stands-worded : {s : List ℕ} {w : ℕ} → Bytes s → Stands s w → Worded (itemAt s (wordOffset w)) w
 stands-worded {s} {w} bytes stands = record {
   name = stand-name stands;
   rank = stand-rank stands (bytes .low);
-  class = λ (e : rankOf (rcnmAt s (placeOf w)) ≡ 3). last-feature (rcnmAt s (placeOf w)) e (stands .known .class);
-  few = node-few 2 _ (entries-bytes s (placeOf w) VRPT bytes);
+  class = λ (e : rankOf (rcnmAt s (wordOffset w)) ≡ 3). last-feature (rcnmAt s (wordOffset w)) e (stands .known .class);
+  few = rw (vrpt-said s (wordOffset w)) (node-few 2 _ (entries-bytes s (wordOffset w) VRPT bytes));
 }
 
-pub items-worded : {s : List ℕ} (ws : List ℕ) → Bytes s → AllStand s ws → AllWorded (itemsOf s ws) ws
-unfolding itemsOf
+pub items-worded : {s : List ℕ} (ws : List ℕ) → Bytes s → AllStand s ws → AllWorded (itemsAt s ws) ws
+unfolding itemsAt
 items-worded [] bytes all = worded-none
 items-worded (w ∷ ws) bytes all = worded-more (stands-worded bytes (stand-first all)) (items-worded ws bytes (stand-rest all))

@@ -1,5 +1,6 @@
--- The notes beside the name words in the work area, from which pointers and rings are judged. Assumes nothing.
-use Prim.Native.Nat.{ℕ, _+_, _-_, _*_, _/_, _≤_, _<_}
+-- The notes beside the name words in the work area, from which pointers and rings are judged. They serve the proofs, and nothing here need be
+-- believed. Assumes nothing.
+use Prim.Native.Nat.{ℕ, _+_, _-_, _*_, _≤_, _<_}
 use mathlib.Core.Bool.{cond}
 use mathlib.Core.List.{List, [], _∷_}
 use mathlib.Core.Path.{_≡_}
@@ -9,26 +10,22 @@ use Rattle.table.specs.Table.{VRPT}
 use Rattle.words.specs.Words.{wordsIn}
 use Rattle.words.specs.Order.{sorted}
 use Rattle.words.specs.Find.{firstFrom}
-use Rattle.items.specs.Lists.{LaidOut}
-use Rattle.items.specs.Identity.{rcnmAt, rankOf, nameOf, Identified}
-use Rattle.items.specs.Item.{Item, itemName}
-use Rattle.names.specs.Lookup.{indexOf}
-use Rattle.names.specs.Held.{AllStand, Noted}
-use Rattle.pointer.specs.Pointer.{heldFoid}
-use Rattle.ring.specs.Ring.{nodeWith, endsWith, nodeAt}
+use Rattle.items.specs.Identity.{rcnmAt, rankOf}
+use Rattle.items.specs.Word.{nameOf, wordOffset, featureWord, rankIn}
+use Rattle.items.specs.Item.{Item, itemName, itemAt}
+use Rattle.lookups.specs.LookupWords.{indexOf}
+use Rattle.pointer.specs.Premises.{heldFoid}
+use Rattle.ring.specs.Ring.{nodeWith}
 use Rattle.topology.specs.Topology.{itemCode}
-
--- the rank of a word's class: 2 an edge, 3 a feature
-abbrev pub rankIn : ℕ → ℕ
-rankIn w = w / 72057594037927936
-
--- the least word of a feature
-abbrev pub featureWord : ℕ
-featureWord = 216172782113783808
+use Rattle.items.specs.Premises.{LaidOut, Identified}
+use Rattle.answers.specs.Answer.{refusal, fine}
+use Rattle.answers.specs.declared.refusal.Refusal.{Refusal}
+use Rattle.names.specs.Premises.{AllStand, Noted}
+use Rattle.ring.specs.Walk.{endsWith, nodeAt}
 
 -- of a feature its FOID, of an edge its ends
 unfoldable pub noteFor : Item → ℕ
-noteFor i = cond (eqb (rankOf (i .rcnm)) 3) (i .foid) (cond (eqb (rankOf (i .rcnm)) 2) (endsWith (i .entries VRPT)) 0)
+noteFor i = cond (eqb (rankOf (i .rcnm)) 3) (i .foid) (cond (eqb (rankOf (i .rcnm)) 2) (endsWith (i .lists VRPT)) 0)
 
 unfoldable pub notesFor : List Item → List ℕ
 notesFor [] = []
@@ -68,13 +65,19 @@ pub record Prepared (notes ws : List ℕ) (m : ℕ) (next : List ℕ) (v : ℕ) 
 abbrev pub notedCode : ℕ → List ℕ → ℕ → ℕ → Item → ℕ
 notedCode comf work m v = itemCode comf (indexOf (wordsIn work 0 m)) (heldFoid (wordsIn work (m + v) (m - v))) (nodeAt (wordsIn work 0 m) (wordsIn work m v))
 
--- ---- words that stand for items, as proofs take them; nothing of this need be believed
+-- the first of the items at these words that has a code, and the byte where its record starts
+unfoldable pub wordFault : (Item → ℕ) → List ℕ → ℕ → List ℕ → Refusal
+wordFault code s k [] = fine
+wordFault code s k (w ∷ ws) =
+    cond (eqb (code (itemAt s (wordOffset w))) 0) (wordFault code s (k + 1) ws) (refusal (code (itemAt s (wordOffset w))) k (wordOffset w))
+
+-- ---- words that stand for items
 -- the word has the item's name and the rank of its class, and of an edge the end fits its half of the note
 pub record Worded (i : Item) (w : ℕ) : Type 0 where
   pub name : nameOf w ≡ itemName i
   pub rank : rankIn w ≡ rankOf (i .rcnm)
   pub class : rankOf (i .rcnm) ≡ 3 → i .rcnm ≡ 100
-  pub few : nodeWith 2 (i .entries VRPT) < 4294967296
+  pub few : nodeWith 2 (i .lists VRPT) < 4294967296
 
 pub data AllWorded : List Item → List ℕ → Type 0 where
   worded-none : AllWorded [] []

@@ -5,34 +5,41 @@ ghost use Prim.Native.Nat.{_-_, _*_, _≤_};
 ghost use mathlib.Core.Bool.{false};
 ghost use mathlib.Core.Path.{_≡_};
 ghost use lib.ListN.{length};
+ghost use Rattle.headvalues.specs.Dspm.{mostComf};
 ghost use Rattle.words.specs.Words.{wordsIn};
-ghost use Rattle.items.specs.Lists.{LaidOut};
-ghost use Rattle.items.specs.Identity.{Identified};
 ghost use Rattle.items.specs.Item.{itemAt};
-ghost use Rattle.names.specs.Names.{Readable};
-ghost use Rattle.names.specs.Comf.{DspmThere};
-ghost use Rattle.names.specs.Held.{AllStand, HeldIn, Noted, itemsOf};
-ghost use Rattle.topology.specs.Topology.{faultFrom, topologyFault};
-ghost use Rattle.topology.specs.Notes.{notedCode};
-use chart::Refusal;
-use chart::read::refuse;
+ghost use Rattle.topology.specs.Topology.{topologyFault};
+ghost use Rattle.topology.specs.Notes.{notedCode, wordFault};
+use counted::comf::comf_of;
 use iso8211::field::head_of;
 use items::identity::prim_of;
 use items::identity::rcnm_of;
-use names::comf::comf_of;
+use items::word;
 use note::prepare;
 use pointer::lnams_code;
 use pointer::pointer_code;
 use ring::area_code;
 use shape::shape_code;
 use words::get;
+ghost use Rattle.items.specs.Premises.{LaidOut, Identified};
+ghost use Rattle.names.specs.Premises.{Readable, AllStand, HeldIn, Noted};
+ghost use Rattle.layout.specs.Premises.{DspmThere};
+use answers::Refusal;
+use answers::refusal::refuse;
 
 pub mod note;
+
+// The note of the item at `at`, whose class has this rank.
+pub use note::note_at;
+
+// Behind m words their notes, those of the features put in order; the answer is the number of
+// vectors.
+pub use note::sort_notes;
 
 // The code of the item at `at`, by the words and notes of m items, of which v are vectors. Of an area
 // Pointer and Ring are judged together, of anything else there is no Ring.
 pub fn item_code(s: &[u8], at: usize, comf: u32, work: &[u8], m: usize, v: usize) -> u32
-    requires { ⌜ LaidOut (now s) at × Identified (now s) at × Noted (now work) m v × (comf ≤ 10000000) ⌝ }
+    requires { ⌜ LaidOut (now s) at × Identified (now s) at × Noted (now work) m v × (comf ≤ mostComf) ⌝ }
     ensures { λ r. ⌜ r ≡ notedCode comf (now (work .entry)) m v (itemAt (now (s .entry)) at) ⌝ }
 {
     let h = head_of(s, at);
@@ -55,12 +62,12 @@ pub fn item_code(s: &[u8], at: usize, comf: u32, work: &[u8], m: usize, v: usize
 
 // The first of m items that has a code.
 fn items_fault(s: &[u8], comf: u32, work: &[u8], m: usize, v: usize) -> Refusal
-    requires { ⌜ AllStand (now s) (wordsIn (now work) 0 m) × Noted (now work) m v × (comf ≤ 10000000) × (m ≤ 5242880) ⌝ }
-    ensures { λ r. ⌜ r ≡ faultFrom (notedCode comf (now (work .entry)) m v) 3 (itemsOf (now (s .entry)) (wordsIn (now (work .entry)) 0 m)) ⌝ }
+    requires { ⌜ AllStand (now s) (wordsIn (now work) 0 m) × Noted (now work) m v × (comf ≤ mostComf) × (m ≤ 5242880) ⌝ }
+    ensures { λ r. ⌜ r ≡ wordFault (notedCode comf (now (work .entry)) m v) (now (s .entry)) 3 (wordsIn (now (work .entry)) 0 m) ⌝ }
 {
     let mut i: usize = 0;
     while i < m {
-        let at = (get(work, i) % 16777216) as usize;
+        let at = (get(work, i) % word::NAME_WEIGHT) as usize;
         let code = item_code(s, at, comf, work, m, v);
         if code != 0 {
             return refuse(code, 3 + i, at);

@@ -6,17 +6,19 @@ ghost use mathlib.Core.Path.{_≡_};
 ghost use lib.ListN.{length};
 ghost use Rattle.words.specs.Words.{wordsIn};
 ghost use Rattle.words.specs.Order.{Sorted};
-ghost use Rattle.items.specs.Identity.{placeOf};
+ghost use Rattle.items.specs.Word.{wordOffset};
 ghost use Rattle.items.specs.Item.{itemAt};
-ghost use Rattle.names.specs.Held.{Stands, itemsOf};
 ghost use Rattle.topology.specs.Notes.{noteFor, notesFor, Ranked, Roomy, Beside, NotesPut, Prepared};
 use iso8211::field::head_of;
 use items::identity::foid_of;
+use items::word;
 use ring::ends::ends_of;
 use words::find;
 use words::get;
 use words::put;
 use words::sort;
+ghost use Rattle.names.specs.NameWords.{itemsAt};
+ghost use Rattle.names.specs.Premises.{Stands};
 
 // The note of the item at `at`, whose class has this rank.
 pub fn note_at(s: &[u8], at: usize, rank: u64) -> u64
@@ -35,16 +37,16 @@ pub fn note_at(s: &[u8], at: usize, rank: u64) -> u64
 // The note of the item whose word is w.
 fn note_of(s: &[u8], w: u64) -> u64
     requires { ⌜ Stands (now s) w ⌝ }
-    ensures { λ r. ⌜ r ≡ noteFor (itemAt (now (s .entry)) (placeOf w)) ⌝ }
+    ensures { λ r. ⌜ r ≡ noteFor (itemAt (now (s .entry)) (wordOffset w)) ⌝ }
 {
-    let at = (w % 16777216) as usize;
-    note_at(s, at, w / 72057594037927936)
+    let at = (w % word::NAME_WEIGHT) as usize;
+    note_at(s, at, w / word::RANK_WEIGHT)
 }
 
 // The notes of the m items whose words stand at the front of the area, behind these.
 fn put_notes(s: &[u8], work: &mut [u8], m: usize)
     requires { ⌜ Roomy (now s) (now work) m ⌝ }
-    ensures { λ _. ⌜ NotesPut (notesFor (itemsOf (now (s .entry)) (wordsIn (now (work .entry)) 0 m))) (now (work .entry)) m (now (work .exit)) ⌝ }
+    ensures { λ _. ⌜ NotesPut (notesFor (itemsAt (now (s .entry)) (wordsIn (now (work .entry)) 0 m))) (now (work .entry)) m (now (work .exit)) ⌝ }
 {
     let mut i: usize = 0;
     while i < m {
@@ -59,7 +61,7 @@ pub fn sort_notes(work: &mut [u8], m: usize) -> usize
     requires { ⌜ (16 * m ≤ length (now work)) × Sorted (wordsIn (now work) 0 m) ⌝ }
     ensures { λ r. ⌜ Prepared (wordsIn (now (work .entry)) m m) (wordsIn (now (work .entry)) 0 m) m (now (work .exit)) r × Beside (now (work .entry)) m (now (work .exit)) ⌝ }
 {
-    let vectors = find(work, 0, m, 216172782113783808);
+    let vectors = find(work, 0, m, word::FEATURE_WORD);
     sort(work, m + vectors, m - vectors);
     vectors
 }
@@ -67,7 +69,7 @@ pub fn sort_notes(work: &mut [u8], m: usize) -> usize
 // The notes of m items of a file, with those of the features in order.
 pub fn prepare(s: &[u8], work: &mut [u8], m: usize) -> usize
     requires { ⌜ Roomy (now s) (now work) m × Sorted (wordsIn (now work) 0 m) ⌝ }
-    ensures { λ r. ⌜ Prepared (notesFor (itemsOf (now (s .entry)) (wordsIn (now (work .entry)) 0 m))) (wordsIn (now (work .entry)) 0 m) m (now (work .exit)) r ⌝ }
+    ensures { λ r. ⌜ Prepared (notesFor (itemsAt (now (s .entry)) (wordsIn (now (work .entry)) 0 m))) (wordsIn (now (work .entry)) 0 m) m (now (work .exit)) r ⌝ }
 {
     put_notes(s, work, m);
     sort_notes(work, m)

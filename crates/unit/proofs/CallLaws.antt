@@ -5,10 +5,10 @@ use mathlib.Core.Path.{_≡_}
 use lib.ListN.{length}
 use borrow.Author.Tests.{eq-eqb, ne-eqb}
 use Rattle.held.specs.Held.{heldOf}
-use Rattle.loader.specs.Admit.{admitOf}
-use Rattle.loader.specs.Apply.{applyOf}
-use Rattle.demands.specs.Cell.{Bytes, cellChart}
-use Rattle.demands.specs.Update.{updatedBy, Allowed}
+use Rattle.loader.specs.Admit.{admitOf, cellChart}
+use Rattle.loader.specs.Apply.{applyOf, updatedBy}
+use Rattle.demands.specs.Cell.{Bytes}
+use Rattle.demands.specs.Update.{Allowed}
 use Rattle.demands.proofs.Apply.{accepted-readable, accepted-exactly}
 use Rattle.demands.proofs.Written.{admitted-held, applied-held}
 use Rattle.unit.specs.Unit.{admitWrote, applyWrote, Offer, offered}

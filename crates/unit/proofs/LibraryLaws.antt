@@ -7,8 +7,9 @@ use lib.ListN.{length}
 use Rattle.held.specs.Chart.{Chart}
 use Rattle.held.specs.Held.{heldOf}
 use Rattle.changes.specs.Follow.{chartName}
-use Rattle.demands.specs.Cell.{Bytes, cellChart}
-use Rattle.demands.specs.Update.{updatedBy}
+use Rattle.loader.specs.Admit.{cellChart}
+use Rattle.demands.specs.Cell.{Bytes}
+use Rattle.loader.specs.Apply.{updatedBy}
 use Rattle.demands.proofs.Updated.{updated-once}
 use Rattle.unit.specs.Unit.{BytesEach, UnitOf}
 use Rattle.unit.specs.Reissue.{chartNumber, shown, OneEach, worked, Series, Reissue}

@@ -8,11 +8,12 @@ use native.Mathlib.Omega.{arith}
 use lib.ListN.{length}
 use Rattle.held.specs.Chart.{Chart}
 use Rattle.held.specs.Held.{heldOf}
-use Rattle.loader.specs.Admit.{admitOf}
+use Rattle.loader.specs.Admit.{admitOf, cellChart}
 use Rattle.changes.specs.Rules.{All}
 use Rattle.changes.specs.Rules.All.{all-more}
-use Rattle.demands.specs.Cell.{Bytes, cellChart}
-use Rattle.demands.specs.Update.{updatedBy, Allowed, Areas}
+use Rattle.demands.specs.Cell.{Bytes}
+use Rattle.loader.specs.Apply.{updatedBy}
+use Rattle.demands.specs.Update.{Allowed, Areas}
 use Rattle.demands.proofs.Whole.{whole-back, whole-updated}
 use Rattle.unit.specs.Unit.{admitWrote, Offer, offered, after, filesOf, In, BytesEach, UnitOf}
 use Rattle.unit.specs.Unit.UnitOf.{begun, given, again}

@@ -8,7 +8,8 @@ use lib.ListN.{length}
 use Rattle.octets.proofs.Cases.{eq-or-ne}
 use Rattle.held.specs.Chart.{Chart}
 use Rattle.changes.specs.Follow.{chartName}
-use Rattle.demands.specs.Update.{updatedBy, Allowed}
+use Rattle.loader.specs.Apply.{updatedBy}
+use Rattle.demands.specs.Update.{Allowed}
 use Rattle.demands.specs.ByteChart.{Whole}
 use Rattle.demands.proofs.Updated.{updated-once}
 use Rattle.demands.proofs.Whole.{whole-updated}

@@ -8,10 +8,10 @@ use lib.ListN.{length}
 use Rattle.octets.proofs.Cases.{eq-or-ne}
 use Rattle.held.specs.Chart.{Chart}
 use Rattle.held.specs.Held.{heldOf}
-use Rattle.loader.specs.Admit.{admitOf}
-use Rattle.loader.specs.Apply.{applyOf}
-use Rattle.demands.specs.Cell.{Bytes, Readable, cellChart}
-use Rattle.demands.specs.Update.{updatedBy, Allowed}
+use Rattle.loader.specs.Admit.{admitOf, cellChart}
+use Rattle.loader.specs.Apply.{applyOf, updatedBy}
+use Rattle.demands.specs.Cell.{Bytes, Readable}
+use Rattle.demands.specs.Update.{Allowed}
 use Rattle.demands.specs.ByteChart.{Whole}
 use Rattle.demands.proofs.Whole.{whole-back, whole-admitted}
 use Rattle.unit.specs.Unit.{admitWrote, Offer, offered, BytesEach, UnitOf}

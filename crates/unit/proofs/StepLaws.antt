@@ -10,11 +10,11 @@ use lib.ListN.{length}
 use Rattle.octets.proofs.Cases.{eq-or-ne}
 use Rattle.held.specs.Chart.{Chart}
 use Rattle.held.specs.Held.{heldOf}
-use Rattle.loader.specs.Admit.{admitOf}
-use Rattle.loader.specs.Apply.{applyOf}
+use Rattle.loader.specs.Admit.{admitOf, cellChart}
+use Rattle.loader.specs.Apply.{applyOf, updatedBy}
 use Rattle.changes.specs.Follow.{chartName}
-use Rattle.demands.specs.Cell.{Bytes, Room, cellChart}
-use Rattle.demands.specs.Update.{updatedBy, Allowed, Areas}
+use Rattle.demands.specs.Cell.{Bytes, Room}
+use Rattle.demands.specs.Update.{Allowed, Areas}
 use Rattle.demands.proofs.Updated.{updated-once}
 use Rattle.demands.proofs.Whole.{whole-back, whole-admitted, whole-updated}
 use Rattle.demands.proofs.Apply.{accepted-exactly}

@@ -8,7 +8,8 @@ use mathlib.Core.Path.{_≡_, refl, sym, ap, _∙_}
 use native.Mathlib.Omega.{arith}
 use Rattle.held.specs.Chart.{Chart}
 use Rattle.held.specs.Held.{heldOf}
-use Rattle.demands.specs.Cell.{Bytes, cellChart}
+use Rattle.loader.specs.Admit.{cellChart}
+use Rattle.demands.specs.Cell.{Bytes}
 use Rattle.unit.specs.Unit.{BytesEach, UnitOf}
 use Rattle.unit.specs.Reissue.{shown, OneEach, worked, Worked, Reissue}
 use Rattle.unit.proofs.SeriesLaws.{series-numbers, series-same, series-every}

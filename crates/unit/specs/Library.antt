@@ -3,7 +3,7 @@ use Prim.Native.Nat.{ℕ, zero, suc, _+_}
 use mathlib.Core.List.{List}
 use mathlib.Core.Path.{_≡_}
 use Rattle.held.specs.Chart.{Chart}
-use Rattle.demands.specs.Update.{updatedBy}
+use Rattle.loader.specs.Apply.{updatedBy}
 use Rattle.unit.specs.Reissue.{chartNumber, numberOf, UpdateOf}
 
 -- the chart with the library's next k updates

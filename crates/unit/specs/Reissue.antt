@@ -6,8 +6,9 @@ use lib.ListN.{length}
 use Rattle.held.specs.Chart.{Chart}
 use Rattle.held.specs.Held.{heldOf}
 use Rattle.changes.specs.Follow.{chartName}
-use Rattle.demands.specs.Cell.{cellChart}
-use Rattle.demands.specs.Update.{ReadableUpdate, fileChange, updatedBy, Allowed}
+use Rattle.loader.specs.Admit.{cellChart}
+use Rattle.loader.specs.Apply.{fileChange, updatedBy}
+use Rattle.demands.specs.Update.{ReadableUpdate, Allowed}
 
 -- ---- numbers: UPDN of a chart, of a cell, of an update
 abbrev pub chartNumber : Chart → ℕ

@@ -1,8 +1,5 @@
 -- Laws of `values`, one file for each notion of specs/ that has some, and examples.
 pub mod Examples
 pub mod FaultLaws
-pub mod TextLaws
 pub mod RuleLaws
 pub mod ClassLaws
-pub mod DspmLaws
-pub mod Promise

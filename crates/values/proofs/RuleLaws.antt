@@ -5,7 +5,8 @@ use mathlib.Core.List.{List}
 use mathlib.Core.Path.{_≡_}
 use lib.Dec.{leb}
 use borrow.Author.Tests.{le-leb, leb-true}
-use Rattle.octets.specs.Digits.{Number, numberAt}
+use Rattle.octets.specs.Digits.{numberAt}
+use Rattle.octets.specs.Premises.{Number}
 use Rattle.octets.proofs.Tests.{told-yes, all3}
 use Rattle.values.specs.Rule.{within, ruinGood, digitsWithin}
 
@@ -19,7 +20,8 @@ unfolding ruinGood
 ruin-cell update r b w e is told = rw (told, ← is) e
 
 -- ---- digits_within
-pub digits-told : (width least most i e v : ℕ) (s : List ℕ) (r : Bool) → 1 ≤ e - i → e - i ≤ width → Number s i (e - i) v → r ≡ within least most v → r ≡ digitsWithin width least most s i e
+pub digits-told : (width least most i e v : ℕ) (s : List ℕ) (r : Bool) → 1 ≤ e - i → e - i ≤ width → Number s i (e - i) v → r ≡ within least most v
+    → r ≡ digitsWithin width least most s i e
 unfolding digitsWithin
 digits-told width least most i e v s r some few is told = rw (le-leb 1 (e - i) some, le-leb (e - i) width few, ← is .is) told
 

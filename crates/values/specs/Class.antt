@@ -1,4 +1,4 @@
--- Object classes by their ranges: "OBJL 1-299 geo, 300-399 meta, 400-401 collection". Assumes nothing.
+-- Item classes by their ranges: "OBJL 1-299 geo, 300-399 meta, 400-401 collection". Assumes nothing.
 use Prim.Native.Nat.{ℕ}
 use mathlib.Core.Bool.{Bool, true, false, cond}
 use Rattle.values.specs.Rule.{within}

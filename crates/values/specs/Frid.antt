@@ -7,6 +7,7 @@ use Rattle.octets.specs.Number.{byteAt, numAt}
 use Rattle.values.specs.Fault.{faultAt, first}
 use Rattle.values.specs.Rule.{rcidGood, rverGood, ruinGood}
 use Rattle.values.specs.Class.{objlGood}
+use Rattle.table.specs.Offsets.{RCID, FRID-PRIM, FRID-OBJL, FRID-RVER, FRID-RUIN}
 
 -- "PRIM 1, 2, 3, 255"
 unfoldable pub primGood : ℕ → Bool
@@ -16,8 +17,8 @@ primGood b = eqb b 1 || (eqb b 2 || (eqb b 3 || eqb b 255))
 unfoldable pub fridFault : Bool → List ℕ → ℕ
 fridFault update s =
     first (faultAt 0 (eqb (byteAt s 0) 100))
-    (first (faultAt 1 (rcidGood s 1))
-    (first (faultAt 5 (primGood (byteAt s 5)))
-    (first (faultAt 7 (objlGood (numAt s 7 2)))
-    (first (faultAt 9 (rverGood s 9))
-    (faultAt 11 (ruinGood update (byteAt s 11)))))))
+    (first (faultAt RCID (rcidGood s RCID))
+    (first (faultAt FRID-PRIM (primGood (byteAt s FRID-PRIM)))
+    (first (faultAt FRID-OBJL (objlGood (numAt s FRID-OBJL 2)))
+    (first (faultAt FRID-RVER (rverGood s FRID-RVER))
+    (faultAt FRID-RUIN (ruinGood update (byteAt s FRID-RUIN)))))))

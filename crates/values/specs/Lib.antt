@@ -1,9 +1,6 @@
 -- The notions of `values`, in the order in which a reader should meet them.
 pub mod Fault
-pub mod Text
 pub mod Rule
 pub mod Class
-pub mod Dssi
-pub mod Dspm
 pub mod Vrid
 pub mod Frid

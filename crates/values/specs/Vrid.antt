@@ -6,6 +6,7 @@ use lib.Dec.{eqb}
 use Rattle.octets.specs.Number.{byteAt}
 use Rattle.values.specs.Fault.{faultAt, first}
 use Rattle.values.specs.Rule.{rcidGood, rverGood, ruinGood}
+use Rattle.table.specs.Offsets.{RCID, VRID-RVER, VRID-RUIN}
 
 -- "110 isolated node, 120 connected node, 130 edge"
 unfoldable pub isVector : ℕ → Bool
@@ -15,6 +16,6 @@ isVector rcnm = eqb rcnm 110 || (eqb rcnm 120 || eqb rcnm 130)
 unfoldable pub vridFault : Bool → List ℕ → ℕ
 vridFault update s =
     first (faultAt 0 (isVector (byteAt s 0)))
-    (first (faultAt 1 (rcidGood s 1))
-    (first (faultAt 5 (rverGood s 5))
-    (faultAt 7 (ruinGood update (byteAt s 7)))))
+    (first (faultAt RCID (rcidGood s RCID))
+    (first (faultAt VRID-RVER (rverGood s VRID-RVER))
+    (faultAt VRID-RUIN (ruinGood update (byteAt s VRID-RUIN)))))

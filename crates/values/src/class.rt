@@ -1,4 +1,4 @@
-// Object classes by their ranges.
+// Item classes by their ranges.
 ghost use mathlib.Core.Path.{_≡_};
 ghost use Rattle.values.specs.Class.{isGeo, isMeta, isCollection, objlGood};
 use crate::rule::within;

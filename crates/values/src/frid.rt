@@ -9,6 +9,7 @@ use crate::rule::rcid_good;
 use crate::rule::ruin_good;
 use crate::rule::rver_good;
 use octets::number::get2;
+use table::offsets;
 
 // Whether a PRIM is point, line, area or none.
 fn prim_good(prim: u8) -> bool
@@ -32,11 +33,11 @@ pub fn frid_fault(f: &[u8], update: bool) -> usize
     ensures { λ r. ⌜ r ≡ fridFault update (now (f .entry)) ⌝ }
 {
     let rcnm = fault_at(0, f[0] == 100);
-    let rcid = fault_at(1, rcid_good(f, 1));
-    let prim = fault_at(5, prim_good(f[5]));
-    let objl = fault_at(7, objl_good(get2(f, 7)));
-    let rver = fault_at(9, rver_good(f, 9));
-    let ruin = fault_at(11, ruin_good(f[11], update));
+    let rcid = fault_at(offsets::RCID, rcid_good(f, offsets::RCID));
+    let prim = fault_at(offsets::FRID_PRIM, prim_good(f[offsets::FRID_PRIM]));
+    let objl = fault_at(offsets::FRID_OBJL, objl_good(get2(f, offsets::FRID_OBJL)));
+    let rver = fault_at(offsets::FRID_RVER, rver_good(f, offsets::FRID_RVER));
+    let ruin = fault_at(offsets::FRID_RUIN, ruin_good(f[offsets::FRID_RUIN], update));
     first(
         rcnm,
         first(rcid, first(prim, first(objl, first(rver, ruin)))),

@@ -7,6 +7,7 @@ use crate::fault::first;
 use crate::rule::rcid_good;
 use crate::rule::ruin_good;
 use crate::rule::rver_good;
+use table::offsets;
 
 // Whether an RCNM is of a vector: isolated node, connected node or edge.
 pub fn is_vector(rcnm: u8) -> bool
@@ -27,8 +28,8 @@ pub fn vrid_fault(f: &[u8], update: bool) -> usize
     ensures { λ r. ⌜ r ≡ vridFault update (now (f .entry)) ⌝ }
 {
     let rcnm = fault_at(0, is_vector(f[0]));
-    let rcid = fault_at(1, rcid_good(f, 1));
-    let rver = fault_at(5, rver_good(f, 5));
-    let ruin = fault_at(7, ruin_good(f[7], update));
+    let rcid = fault_at(offsets::RCID, rcid_good(f, offsets::RCID));
+    let rver = fault_at(offsets::VRID_RVER, rver_good(f, offsets::VRID_RVER));
+    let ruin = fault_at(offsets::VRID_RUIN, ruin_good(f[offsets::VRID_RUIN], update));
     first(rcnm, first(rcid, first(rver, ruin)))
 }

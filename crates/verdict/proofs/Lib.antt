@@ -1,2 +1,2 @@
 -- Laws of `verdict`.
-pub mod AlikeLaws
+pub mod VerdictLaws

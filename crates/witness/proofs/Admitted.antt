@@ -4,12 +4,13 @@ use mathlib.Core.List.{List, [], _∷_, _++_}
 use mathlib.Core.Path.{_≡_, refl, ap, _∙_}
 use native.Mathlib.Omega.{arith}
 use lib.ListN.{length, drop, length-replicate}
-use Rattle.reader.specs.Reader.{answer}
-use Rattle.reader.specs.declared.answer.Answer.{Answer}
+use Rattle.answers.specs.Answer.{answer}
+use Rattle.answers.specs.declared.answer.Answer.{Answer}
 use Rattle.held.specs.Held.{heldOf}
-use Rattle.loader.specs.Admit.{admitOf, admitArea}
-use Rattle.loader.specs.Answer.{answerArea}
-use Rattle.demands.specs.Cell.{Bytes, recordsIn, countIn, cellChart}
+use Rattle.loader.specs.Admit.{admitOf, admitArea, cellChart}
+use Rattle.answers.specs.Sixteen.{answerArea}
+use Rattle.reader.specs.Reader.{recordsIn, countIn}
+use Rattle.demands.specs.Cell.{Bytes}
 use Rattle.demands.specs.Accepted.{Admissible}
 use Rattle.demands.proofs.Admit.{admitted-exactly, admit-writes}
 use Rattle.witness.specs.SmallCell.{small}

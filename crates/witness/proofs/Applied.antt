@@ -5,15 +5,16 @@ use mathlib.Core.Path.{_≡_, refl, ap, _∙_}
 use native.Mathlib.Omega.{arith}
 use lib.ListN.{length, drop}
 use Rattle.iso8211.specs.File.{recordAt}
-use Rattle.chart.specs.Read.{refusal}
-use Rattle.reader.specs.Reader.{answer}
-use Rattle.reader.specs.declared.answer.Answer.{Answer}
+use Rattle.answers.specs.Answer.{refusal, answer}
+use Rattle.answers.specs.declared.answer.Answer.{Answer}
 use Rattle.held.specs.Held.{heldOf}
 use Rattle.held.specs.Limits.{recordCount}
 use Rattle.changes.specs.Amend.{changeFault}
-use Rattle.loader.specs.Apply.{applyOf, applyArea}
-use Rattle.demands.specs.Cell.{Bytes, recordsIn, cellChart}
-use Rattle.demands.specs.Update.{changesIn, fileChange, Allowed}
+use Rattle.loader.specs.Apply.{applyOf, applyArea, changesIn, fileChange}
+use Rattle.reader.specs.Reader.{recordsIn}
+use Rattle.loader.specs.Admit.{cellChart}
+use Rattle.demands.specs.Cell.{Bytes}
+use Rattle.demands.specs.Update.{Allowed}
 use Rattle.demands.specs.ByteChart.{Whole}
 use Rattle.demands.proofs.Apply.{accepted-readable, accepted-exactly}
 use Rattle.demands.proofs.Whole.{whole-admitted}

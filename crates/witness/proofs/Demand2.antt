@@ -5,18 +5,19 @@ use mathlib.Core.Path.{_≡_, ap}
 use native.Mathlib.Omega.{arith}
 use lib.ListN.{length, drop}
 use Rattle.items.specs.Identity.{nameFrom}
-use Rattle.reader.specs.Reader.{answer}
-use Rattle.reader.specs.declared.answer.Answer.{Answer}
-use Rattle.held.specs.Chart.{objectName}
+use Rattle.answers.specs.Answer.{answer}
+use Rattle.answers.specs.declared.answer.Answer.{Answer}
+use Rattle.items.specs.Item.{itemName}
 use Rattle.changes.specs.Change.{Amendment}
 use Rattle.changes.specs.Amend.{heldBy}
 use Rattle.changes.specs.Rules.{All, Done}
 use Rattle.changes.specs.Rules.All.{all-none, all-more}
-use Rattle.loader.specs.Judge.{judgeOf}
-use Rattle.loader.specs.Admit.{admitOf, admitArea}
-use Rattle.loader.specs.Apply.{applyOf, applyArea}
-use Rattle.demands.specs.Cell.{Readable, recordsIn, cellChart}
-use Rattle.demands.specs.Update.{fileChange, Allowed, Areas}
+use Rattle.judging.specs.Judge.{judgeOf}
+use Rattle.loader.specs.Admit.{admitOf, admitArea, cellChart}
+use Rattle.loader.specs.Apply.{applyOf, applyArea, fileChange}
+use Rattle.reader.specs.Reader.{recordsIn}
+use Rattle.demands.specs.Cell.{Readable}
+use Rattle.demands.specs.Update.{Allowed, Areas}
 use Rattle.demands.specs.Accepted.{Judgeable}
 use Rattle.demands.specs.Written.{admittedBytes, appliedBytes, ReadsAs, Applied}
 use Rattle.demands.specs.Verdict.{Good}
@@ -101,18 +102,18 @@ moved-good = updated-good chartSmall moving moving-bytes (small-good .values) mo
 pub moved-once : Once chartSmall moving
 moved-once = updated-once chartSmall moving moving-allowed
 
-pub moved-done : All (Done (chartSmall .objects) (chartMoved .objects)) (fileChange moving .amendments)
+pub moved-done : All (Done (chartSmall .items) (chartMoved .items)) (fileChange moving .amendments)
 moved-done = named-done chartSmall moving moving-bytes moving-allowed
 
 -- `other-kept`: node 1, which update 1 doesn't name
 two-names : _≡_ {A = ℕ} 4294967297 4294967298 → ⊥
 two-names e = omega arith
 
-others-differ : All (λ (a : Amendment). 4294967297 ≡ objectName (a .object) → ⊥) (fileChange moving .amendments)
+others-differ : All (λ (a : Amendment). 4294967297 ≡ itemName (a .object) → ⊥) (fileChange moving .amendments)
 unfolding judging admitting applying smallFiles recordsIn
 others-differ = all-more two-names all-none
 
-pub other-node : heldBy (chartMoved .objects) (nameFrom 120 1) ≡ heldBy (chartSmall .objects) (nameFrom 120 1)
+pub other-node : heldBy (chartMoved .items) (nameFrom 120 1) ≡ heldBy (chartSmall .items) (nameFrom 120 1)
 unfolding judging
 other-node = other-kept chartSmall moving 4294967297 others-differ
 

@@ -7,15 +7,17 @@ use native.Mathlib.Omega.{arith}
 use lib.ListN.{length, drop}
 use borrow.Author.Tests.{le-ltb, eq-eqb}
 use Rattle.iso8211.specs.File.{recordAt}
-use Rattle.chart.specs.Read.{refusal}
-use Rattle.reader.specs.Reader.{answer, filed, firstRefusal, workAnswer, cellFault, updateFault}
+use Rattle.answers.specs.Answer.{refusal, answer, filed}
+use Rattle.answers.specs.First.{firstBy}
+use Rattle.reader.specs.Reader.{fronted, workAnswer, cellFault, updateFault, countIn}
 use Rattle.held.specs.Chart.{Chart}
 use Rattle.held.specs.Held.{heldOf}
 use Rattle.held.specs.Limits.{recordCount}
 use Rattle.changes.specs.Amend.{changeFault, placedIn}
-use Rattle.loader.specs.Apply.{firstAnswer, changeAnswer, applyChecked, applySecond, applyFirst, applyOf, applyArea}
-use Rattle.demands.specs.Cell.{Bytes, Readable, countIn, cellChart}
-use Rattle.demands.specs.Update.{ReadableUpdate, changesIn, fileChange, updatedBy, Allowed}
+use Rattle.loader.specs.Apply.{applyOf, applyArea, changesIn, fileChange, updatedBy}
+use Rattle.loader.specs.Admit.{cellChart}
+use Rattle.demands.specs.Cell.{Bytes, Readable}
+use Rattle.demands.specs.Update.{ReadableUpdate, Allowed}
 use Rattle.demands.specs.ByteChart.{Whole}
 use Rattle.demands.proofs.ReadsBack.{held-count}
 use Rattle.demands.proofs.Apply.{accepted-exactly, apply-writes, apply-again}
@@ -24,7 +26,7 @@ use Rattle.demands.proofs.Whole.{whole-back, whole-updated}
 -- readable files of which the second doesn't follow: 11, whatever the output
 refused-eleven : (cell file : List ℕ) → Readable cell → ReadableUpdate file → changeFault (cellChart cell) (fileChange file) ≡ refusal 11 1 0
     → (w o : ℕ) → 16 * (countIn cell + changesIn file) ≤ w → applyOf cell file w o ≡ answer 11 2 1 0 (recordAt file 1)
-unfolding applyOf applyFirst applySecond applyChecked workAnswer firstRefusal firstAnswer filed changeAnswer placedIn
+unfolding applyOf fronted workAnswer firstBy filed placedIn
 refused-eleven cell file r u e w o work =
     rw (
       r .opened,

@@ -3,9 +3,9 @@ use Prim.Native.Nat.{ℕ, _≤_}
 use mathlib.Core.List.{[], _∷_}
 use mathlib.Core.Path.{_≡_, refl}
 use lib.ListN.{set}
-use Rattle.reader.specs.Reader.{answer}
-use Rattle.loader.specs.Judge.{judgeOf}
-use Rattle.loader.specs.Answer.{answerArea}
+use Rattle.answers.specs.Answer.{answer}
+use Rattle.judging.specs.Judge.{judgeOf}
+use Rattle.answers.specs.Sixteen.{answerArea}
 use Rattle.witness.specs.SmallCell.{small, ringed}
 use Rattle.witness.proofs.Computing.{judging, smallFiles}
 use Rattle.witness.proofs.WorkLaws.{judge-more}

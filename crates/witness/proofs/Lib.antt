@@ -6,7 +6,4 @@ pub mod WorkLaws
 pub mod Judged
 pub mod Admitted
 pub mod Applied
-pub mod Wrong
 pub mod Demand2
-pub mod Offered
-pub mod Units

@@ -2,5 +2,4 @@
 pub mod Records
 pub mod SmallCell
 pub mod SmallUpdates
-pub mod Loaders
 pub mod SmallOffers

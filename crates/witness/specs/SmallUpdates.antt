@@ -5,8 +5,8 @@ use Rattle.octets.specs.Number.{bytesOf}
 use Rattle.table.specs.Text.{bytes}
 use Rattle.header.specs.First.{firstRecord}
 use Rattle.held.specs.Chart.{Chart}
-use Rattle.demands.specs.Cell.{cellChart}
-use Rattle.demands.specs.Update.{updatedBy}
+use Rattle.loader.specs.Admit.{cellChart}
+use Rattle.loader.specs.Apply.{updatedBy}
 use Rattle.witness.specs.Records.{fieldEnd, declared, declaredFirst, declaredDsid, declaredDssi, declaredVrid, declaredPairs, declaredFrid, declaredFoid, cellHeading}
 use Rattle.witness.specs.Records.{updateHeading, parameters, vrid, pair, node, edge, frid, foid, feature}
 use Rattle.witness.specs.SmallCell.{small}

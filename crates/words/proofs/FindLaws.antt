@@ -121,7 +121,8 @@ bracket-end {w} {l} {low} {high} t h =
 pub find-start : (s : List ℕ) (start n w : ℕ) → Bracket w (wordsIn s start n) 0 n
 find-start s start n w = bracket-start w (wordsIn s start n) n (words-length s start n)
 
-module _ (s : List ℕ) (start n w low high x : ℕ) (so : Sorted (wordsIn s start n)) (t : Bracket w (wordsIn s start n) low high) (more : low < high) (is : x ≡ wordAt s (start + (low + (high - low) / 2))) where
+module _ (s : List ℕ) (start n w low high x : ℕ) (so : Sorted (wordsIn s start n)) (t : Bracket w (wordsIn s start n) low high) (more : low < high)
+    (is : x ≡ wordAt s (start + (low + (high - low) / 2))) where
   middle : getD (wordsIn s start n) (low + (high - low) / 2) 0 ≡ x
   middle = let g = t .inside in words-at s start n (low + (high - low) / 2) (omega (arith, words-length s start n)) ∙ sym is
 

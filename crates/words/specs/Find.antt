@@ -1,4 +1,4 @@
--- Where a word belongs among words in ascending order. Assumes nothing.
+-- Where a word belongs among words in ascending order. It serves the proofs, and nothing here need be believed. Assumes nothing.
 use Prim.Native.Nat.{ℕ, suc}
 use mathlib.Core.Bool.{cond}
 use mathlib.Core.List.{List, [], _∷_}

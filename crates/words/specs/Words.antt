@@ -1,4 +1,5 @@
--- 64-bit words in a lent area of bytes: word i stands in the bytes 8 * i to 8 * i + 7. Assumes nothing.
+-- 64-bit words in a lent area of bytes: word i stands in the bytes 8 * i to 8 * i + 7. It serves the proofs, and nothing here need be believed.
+-- Assumes nothing.
 use Prim.Native.Nat.{ℕ, zero, suc, _*_, _/_}
 use mathlib.Core.List.{List, [], _∷_}
 use lib.ListN.{length}

@@ -8,21 +8,23 @@ use Rattle.octets.specs.Area.{Wrote, Going}
 use Rattle.octets.proofs.AreaLaws.{going-start, going-step, going-end, going-room}
 use Rattle.words.specs.Words.{wordAt, wordsIn}
 use Rattle.words.proofs.WordsLaws.{words-length, words-from}
-use Rattle.items.specs.Identity.{placeOf}
+use Rattle.items.specs.Word.{wordOffset}
 use Rattle.records.specs.Written.{recordBytes, recordsBytes, sizeOf}
 use Rattle.records.proofs.WrittenLaws.{record-length}
-use Rattle.objects.specs.Object.{objectAt, objectPieces}
-use Rattle.held.specs.Held.{objectsPieces}
-use Rattle.writing.specs.Plain.{Writable, ItemSized}
-use Rattle.writing.specs.All.{objectsAt, writtenFrom, mostOf, Words, AllSized}
+use Rattle.items.specs.Item.{itemAt}
+use Rattle.itemfields.specs.Fields.{itemPieces}
+use Rattle.held.specs.Held.{itemsPieces}
+use Rattle.itemrows.specs.Plain.{Writable, ItemSized}
+use Rattle.names.specs.NameWords.{itemsAt}
+use Rattle.writing.specs.All.{writtenFrom, mostOf, Words, AllSized}
 
 one-more : (n : ℕ) (s : List ℕ) (w : ℕ) (ws : List ℕ)
-    → writtenFrom n s (w ∷ ws) ≡ recordBytes (objectPieces n (objectAt s (placeOf w))) ++ writtenFrom (n + 1) s ws
-unfolding writtenFrom objectsAt objectsPieces recordsBytes
+    → writtenFrom n s (w ∷ ws) ≡ recordBytes (itemPieces n (itemAt s (wordOffset w))) ++ writtenFrom (n + 1) s ws
+unfolding writtenFrom itemsAt itemsPieces recordsBytes
 one-more n s w ws = refl
 
 none-left : (n : ℕ) (s : List ℕ) → writtenFrom n s [] ≡ []
-unfolding writtenFrom objectsAt objectsPieces recordsBytes
+unfolding writtenFrom itemsAt itemsPieces recordsBytes
 none-left n s = refl
 
 -- ---- the item of word k, which is w: its record, and those of the words behind it
@@ -31,7 +33,7 @@ module _ (s work : List ℕ) (m k w : ℕ) (here : k < m) (read : w ≡ wordAt w
   all-words = wordsIn work 0 m
 
   abbrev one : List ℕ
-  one = recordBytes (objectPieces (k + 3) (objectAt s (placeOf w)))
+  one = recordBytes (itemPieces (k + 3) (itemAt s (wordOffset w)))
 
   abbrev rest : List ℕ
   rest = writtenFrom (k + 1 + 3) s (drop (k + 1) all-words)
@@ -45,21 +47,21 @@ module _ (s work : List ℕ) (m k w : ℕ) (here : k < m) (read : w ≡ wordAt w
       ap (λ (l : List ℕ). writtenFrom (k + 3) s l) peel ∙ one-more (k + 3) s w (drop (k + 1) all-words)
       ∙ ap (λ (n : ℕ). one ++ writtenFrom n s (drop (k + 1) all-words)) e
 
-  next-long : length (writtenFrom (k + 3) s (drop k all-words)) ≡ sizeOf (objectPieces (k + 3) (objectAt s (placeOf w))) + length rest
-  next-long = ap length all-next ∙ length-append one rest ∙ ap (λ (n : ℕ). n + length rest) (record-length (objectPieces (k + 3) (objectAt s (placeOf w))))
+  next-long : length (writtenFrom (k + 3) s (drop k all-words)) ≡ sizeOf (itemPieces (k + 3) (itemAt s (wordOffset w))) + length rest
+  next-long = ap length all-next ∙ length-append one rest ∙ ap (λ (n : ℕ). n + length rest) (record-length (itemPieces (k + 3) (itemAt s (wordOffset w))))
 
-  pub word-writable : Words s m work → Writable s (placeOf w)
+  pub word-writable : Words s m work → Writable s (wordOffset w)
   word-writable ws = rw read (ws .each k here)
 
   pub all-room : {a b all : List ℕ} {p q : ℕ} → Going a p all b q (writtenFrom (k + 3) s (drop k (wordsIn work 0 m))) → p + length all ≤ length a
-      → q + sizeOf (objectPieces (k + 3) (objectAt s (placeOf w))) ≤ length b
+      → q + sizeOf (itemPieces (k + 3) (itemAt s (wordOffset w))) ≤ length b
   all-room g room = omega (arith, going-room g room, next-long)
 
   pub all-on : {a b d all : List ℕ} {p q r : ℕ} → Going a p all b q (writtenFrom (k + 3) s (drop k (wordsIn work 0 m)))
-      → Wrote b q (recordBytes (objectPieces (k + 3) (objectAt s (placeOf w)))) d r → Going a p all d r (writtenFrom (k + 1 + 3) s (drop (k + 1) (wordsIn work 0 m)))
+      → Wrote b q (recordBytes (itemPieces (k + 3) (itemAt s (wordOffset w)))) d r → Going a p all d r (writtenFrom (k + 1 + 3) s (drop (k + 1) (wordsIn work 0 m)))
   all-on g v = going-step one rest g all-next v
 
-  module _ (size : ℕ) (sized : ItemSized s (placeOf w) size) where
+  module _ (size : ℕ) (sized : ItemSized s (wordOffset w) size) where
     pub sum-on : (all sum : ℕ) → all ≡ sum + length (writtenFrom (k + 3) s (drop k (wordsIn work 0 m)))
         → all ≡ sum + size + length (writtenFrom (k + 1 + 3) s (drop (k + 1) (wordsIn work 0 m)))
     sum-on all sum so = omega (arith, next-long, sized .is (k + 3))
@@ -70,7 +72,7 @@ module _ (s work : List ℕ) (m k w : ℕ) (here : k < m) (read : w ≡ wordAt w
     most-on all most now so e =
         let z = sized .is (k + 3) in
         let n : k + 3 + 1 ≡ k + 1 + 3 = omega arith in
-        let long = sizeOf (objectPieces (k + 3) (objectAt s (placeOf w))) in
+        let long = sizeOf (itemPieces (k + 3) (itemAt s (wordOffset w))) in
         let next : mostOf (k + 3) s (drop k all-words) ≡ max long (mostOf (k + 1 + 3) s (drop (k + 1) all-words)) =
         ap (λ (l : List ℕ). mostOf (k + 3) s l) peel ∙ ap (λ (x : ℕ). max long (mostOf x s (drop (k + 1) all-words))) n in
         omega arith

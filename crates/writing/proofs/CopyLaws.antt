@@ -12,21 +12,22 @@ use Rattle.octets.proofs.AreaLaws.{wrote-as}
 use Rattle.iso8211.specs.Field.{countAt, fieldAt}
 use Rattle.entries.specs.Entries.{entriesOf}
 use Rattle.entries.proofs.EntriesLaws.{entries-nil}
-use Rattle.table.specs.Table.{VRID, FRID, FOID, tagOf, rowOf, table, asNumber}
+use Rattle.table.specs.Table.{VRID, FRID, FOID, tagOf, rowOf, table, asNumber, ATTV, VRPT, SG2D, SG3D, ATTF, NATF, FFPT, FSPT}
 use Rattle.table.specs.Text.{bytes}
 use Rattle.layout.specs.Layout.{shapeOf}
 use Rattle.layout.specs.Record.{kindAt, contentAt}
 use Rattle.layout.proofs.Promise.{full-vrid, full-frid, full-foid}
-use Rattle.items.specs.Identity.{idAt, rcnmAt, rcidAt, primAt, objlAt, foidAt, versionAt, Featured}
-use Rattle.items.specs.Lists.{LaidOut, listAt, entriesAt}
+use Rattle.items.specs.Identity.{idAt, rcnmAt, rcidAt, primAt, objlAt, foidAt, versionAt}
+use Rattle.items.specs.Premises.{LaidOut, Featured}
+use Rattle.items.specs.Lists.{listAt, entriesAt}
 use Rattle.items.proofs.IdentityLaws.{num-one}
 use Rattle.records.specs.Written.{bodyOf, rowsFor, recordBytes, sizeOf}
 use Rattle.records.proofs.HeadLaws.{byte-one}
-use Rattle.objects.specs.Object.{objectAt, listOf, grupAt, ofFeature, isFeature, piece, listPiece, listPieces, vectorKinds, featureKinds}
-use Rattle.objects.specs.Object.{vridBytes, fridBytes, vectorPieces, featurePieces, objectPieces}
-use Rattle.objects.proofs.BytesLaws.{list-bytes, num-bytes}
-use Rattle.writing.specs.Plain.{tagsOf, Writable, ItemSized}
-use Rattle.writing.specs.Joined.{fieldPiece, fieldPieces, idKinds, keptPieces, leadPieces, joinedPieces, Tagged, Lead, Sized}
+use Rattle.items.specs.Item.{listOf, grupAt, ofFeature, isFeature, itemAt}
+use Rattle.itemfields.specs.Fields.{piece, listPiece, listPieces, vectorKinds, featureKinds, vridBytes, fridBytes, vectorPieces, featurePieces, itemPieces}
+use Rattle.itemfields.proofs.BytesLaws.{list-bytes, num-bytes}
+use Rattle.itemrows.specs.Plain.{tagsOf, Writable, ItemSized}
+use Rattle.itemrows.specs.Joined.{fieldPiece, fieldPieces, idKinds, keptPieces, leadPieces, joinedPieces, Tagged, Lead, Sized}
 use Rattle.writing.proofs.FieldLaws.{join, content-long, content-fits, content-is, field-is, filled-as}
 
 -- ---- the fields before the lists
@@ -87,11 +88,11 @@ module _ (s : List ℕ) (at : ℕ) (laid : LaidOut s at) where
           rows-are = λ number. told ∙ rw (frid-long, foid-long);
         }
 
-pub vector-tagged : Tagged (4 ∷ 6 ∷ 8 ∷ 9 ∷ []) (1096045654 ∷ 1448235092 ∷ 1397174852 ∷ 1397175108 ∷ [])
+pub vector-tagged : Tagged (ATTV ∷ VRPT ∷ SG2D ∷ SG3D ∷ []) (1096045654 ∷ 1448235092 ∷ 1397174852 ∷ 1397175108 ∷ [])
 unfolding tagsOf tagOf rowOf table asNumber bytes
 vector-tagged = record { is = refl; four = refl }
 
-pub feature-tagged : Tagged (12 ∷ 13 ∷ 15 ∷ 17 ∷ []) (1096045638 ∷ 1312904262 ∷ 1179013204 ∷ 1179865172 ∷ [])
+pub feature-tagged : Tagged (ATTF ∷ NATF ∷ FFPT ∷ FSPT ∷ []) (1096045638 ∷ 1312904262 ∷ 1179013204 ∷ 1179865172 ∷ [])
 unfolding tagsOf tagOf rowOf table asNumber bytes
 feature-tagged = record { is = refl; four = refl }
 
@@ -153,7 +154,7 @@ module _ (s : List ℕ) (at : ℕ) (small : (i : ℕ) → byteAt s i < 256) wher
 
   -- ---- a vector
   module _ (w : Writable s at) (ne : rcnmAt s at ≡ 100 → ⊥) where
-    vrid-copied : vridBytes (objectAt s at) ≡ contentAt s at 1
+    vrid-copied : vridBytes (itemAt s at) ≡ contentAt s at 1
     unfolding vridBytes rcnmAt rcidAt versionAt
     vrid-copied =
         let long = vrid-long s at (w .laid) (w .vector ne .0) in
@@ -166,8 +167,8 @@ module _ (s : List ℕ) (at : ℕ) (small : (i : ℕ) → byteAt s i < 256) wher
         (last-as (idAt s at + 7) (w .vector ne .1) (omega arith)) (omega arith)
         ∙ sym (content-is s at (w .laid) 1 (one-in s at (w .laid)) 8 long)
 
-    pub vector-pieces : (number : ℕ) → objectPieces number (objectAt s at) ≡ joinedPieces number s at 1 vectorKinds
-    unfolding objectPieces isFeature vectorPieces joinedPieces leadPieces keptPieces idKinds
+    pub vector-pieces : (number : ℕ) → itemPieces number (itemAt s at) ≡ joinedPieces number s at 1 vectorKinds
+    unfolding itemPieces isFeature vectorPieces joinedPieces leadPieces keptPieces idKinds
     vector-pieces number = rw (ne-eqb (rcnmAt s at) 100 ne, vrid-copied, vector-lists s at (w .laid))
 
   -- ---- a feature
@@ -195,7 +196,7 @@ module _ (s : List ℕ) (at : ℕ) (small : (i : ℕ) → byteAt s i < 256) wher
     unfolding grupAt
     grup-is = refl
 
-    frid-copied : fridBytes (objectAt s at) ≡ contentAt s at 1
+    frid-copied : fridBytes (itemAt s at) ≡ contentAt s at 1
     unfolding fridBytes rcidAt objlAt
     frid-copied =
         let long = frid-long s at (w .laid) (of .is) (of .object) (of .third) in
@@ -217,24 +218,24 @@ module _ (s : List ℕ) (at : ℕ) (small : (i : ℕ) → byteAt s i < 256) wher
         ap (λ (x : ℕ). bytesOf 8 x) (as-feature (foidAt s at)) ∙ num-bytes s small 8 (fieldAt s at 2 .start) (of .whole)
         ∙ sym (content-is s at (w .laid) 2 (two-in s at (w .laid) (of .is) (of .object) (of .third)) 8 (foid-long s at (w .laid) (of .is) (of .object) (of .third)))
 
-    pub feature-pieces : (number : ℕ) → objectPieces number (objectAt s at) ≡ joinedPieces number s at 2 featureKinds
-    unfolding objectPieces isFeature featurePieces joinedPieces leadPieces keptPieces idKinds
+    pub feature-pieces : (number : ℕ) → itemPieces number (itemAt s at) ≡ joinedPieces number s at 2 featureKinds
+    unfolding itemPieces isFeature featurePieces joinedPieces leadPieces keptPieces idKinds
     feature-pieces number = rw (eq-eqb (rcnmAt s at) 100 hundred, frid-copied, foid-copied, feature-lists s at (w .laid))
 
 -- ---- as the code asks for it: the fields of the item are m identifier fields and lists of these kinds, joined
 pub record JoinedAs (s : List ℕ) (at m : ℕ) (kinds : List ℕ) : Type 0 where
-  pub is : (number : ℕ) → objectPieces number (objectAt s at) ≡ joinedPieces number s at m kinds
+  pub is : (number : ℕ) → itemPieces number (itemAt s at) ≡ joinedPieces number s at m kinds
 
 module _ {s : List ℕ} {at m : ℕ} {kinds : List ℕ} (same : JoinedAs s at m kinds) where
   pub item-sized : (q : ℕ) → Sized s at m kinds q → ItemSized s at q
   item-sized q z = record { is = λ number. z .is number ∙ ap sizeOf (sym (same .is number)); few = z .few }
 
-  pub item-room : (number place room : ℕ) → place + sizeOf (objectPieces number (objectAt s at)) ≤ room → place + sizeOf (joinedPieces number s at m kinds) ≤ room
+  pub item-room : (number place room : ℕ) → place + sizeOf (itemPieces number (itemAt s at)) ≤ room → place + sizeOf (joinedPieces number s at m kinds) ≤ room
   item-room number place room h = rw (← (same .is number)) h
 
   pub item-put : {a b : List ℕ} {place q : ℕ} (number : ℕ) → Wrote a place (recordBytes (joinedPieces number s at m kinds)) b q
-      → Wrote a place (recordBytes (objectPieces number (objectAt s at))) b q
-  item-put number v = wrote-as (recordBytes (objectPieces number (objectAt s at))) (ap recordBytes (sym (same .is number))) v
+      → Wrote a place (recordBytes (itemPieces number (itemAt s at))) b q
+  item-put number v = wrote-as (recordBytes (itemPieces number (itemAt s at))) (ap recordBytes (sym (same .is number))) v
 
 -- r is RCNM as it was read
 module _ (s : List ℕ) (at r : ℕ) (w : Writable s at) (read : r ≡ rcnmAt s at) where
@@ -246,8 +247,8 @@ module _ (s : List ℕ) (at r : ℕ) (w : Writable s at) (read : r ≡ rcnmAt s 
   vector-led rows other told = vector-lead s at (w .laid) rows (w .vector (λ (e : rcnmAt s at ≡ 100). other (read ∙ e)) .0) told
 
   module _ (small : (i : ℕ) → byteAt s i < 256) where
-    pub feature-joined : r ≡ 100 → JoinedAs s at 2 (12 ∷ 13 ∷ 15 ∷ 17 ∷ [])
+    pub feature-joined : r ≡ 100 → JoinedAs s at 2 (ATTF ∷ NATF ∷ FFPT ∷ FSPT ∷ [])
     feature-joined is = record { is = feature-pieces s at small w (sym read ∙ is) }
 
-    pub vector-joined : (r ≡ 100 → ⊥) → JoinedAs s at 1 (4 ∷ 6 ∷ 8 ∷ 9 ∷ [])
+    pub vector-joined : (r ≡ 100 → ⊥) → JoinedAs s at 1 (ATTV ∷ VRPT ∷ SG2D ∷ SG3D ∷ [])
     vector-joined other = record { is = vector-pieces s at small w (λ (e : rcnmAt s at ≡ 100). other (read ∙ e)) }

@@ -15,10 +15,10 @@ use Rattle.iso8211.proofs.DirectoryLaws.{rows-row}
 use Rattle.iso8211.proofs.Promise.{directory-length}
 use Rattle.layout.specs.Layout.{filled}
 use Rattle.layout.specs.Record.{kindAt, contentAt}
-use Rattle.items.specs.Lists.{LaidOut}
-use Rattle.records.specs.Pieces.{pieceOf, piecesFrom}
+use Rattle.items.specs.Premises.{LaidOut}
+use Rattle.records.specs.Premises.{pieceOf, piecesFrom}
 use Rattle.records.specs.Written.{bodyOf, rowsFor}
-use Rattle.writing.proofs.ChosenLaws.{Full, full-none, full-more}
+use Rattle.itemrows.proofs.ChosenLaws.{Full, full-none, full-more}
 
 -- ---- parts of a list, one behind the other
 pub join : (l : List ℕ) (p q a b : ℕ) → p + a ≡ q → q ≤ length l → take a (drop p l) ++ take b (drop q l) ≡ take (a + b) (drop p l)

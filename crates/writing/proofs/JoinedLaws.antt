@@ -18,12 +18,12 @@ use Rattle.items.specs.Lists.{listAt}
 use Rattle.items.specs.Identity.{idAt}
 use Rattle.records.specs.Pieces.{Piece}
 use Rattle.records.specs.Written.{pieceLength, bodyOf, rowsFor, baseFor, headBytes, recordBytes, sizeOf}
-use Rattle.writing.specs.Plain.{tagsOf}
-use Rattle.writing.specs.Joined.{fieldPiece, fieldPieces, idKinds, keptPieces, leadPieces, joinedPieces, joinedBody}
-use Rattle.writing.specs.Joined.{bytesFor, listRow, sumBy, countOf, sumOf, listRows, Totals, Tagged, Lead, Sized}
-use Rattle.writing.proofs.PartLaws.{body-append}
-use Rattle.writing.proofs.RowLaws.{bytes-no, bytes-some, four-is}
-use Rattle.writing.proofs.PlanLaws.{Planned, planned-size, planned-head, planned-room, planned-put}
+use Rattle.itemrows.specs.Plain.{tagsOf}
+use Rattle.itemrows.specs.Joined.{fieldPiece, fieldPieces, idKinds, keptPieces, leadPieces, joinedPieces, joinedBody, bytesFor, listRow, sumBy, countOf, sumOf, listRows}
+use Rattle.itemrows.specs.Joined.{Totals, Tagged, Lead, Sized}
+use Rattle.joining.proofs.PartLaws.{body-append}
+use Rattle.itemrows.proofs.RowLaws.{bytes-no, bytes-some, four-is}
+use Rattle.itemrows.proofs.PlanLaws.{Planned, planned-size, planned-head, planned-room, planned-put}
 
 -- ---- lists by their lengths
 unfoldable pub lengths : (ℕ → List ℕ) → List ℕ → List ℕ

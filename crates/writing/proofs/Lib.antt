@@ -1,12 +1,7 @@
 -- The laws of `writing`: for the crates above `cell-writable` and `stood`, the others for the proofs of this crate.
-pub mod PartLaws
-pub mod RowLaws
-pub mod PlanLaws
 pub mod JoinedLaws
-pub mod ChosenLaws
 pub mod FieldLaws
 pub mod CopyLaws
-pub mod TakenLaws
 pub mod StandLaws
 pub mod PlainLaws
 pub mod AllLaws

@@ -16,10 +16,11 @@ use Rattle.iso8211.specs.Directory.{len, position}
 use Rattle.iso8211.specs.Field.{countAt, directoryAt, fieldAt}
 use Rattle.items.specs.Identity.{idAt}
 use Rattle.records.specs.Written.{bodyOf, baseFor, headBytes, recordBytes, sizeOf}
-use Rattle.objects.specs.Object.{objectAt, objectPieces}
-use Rattle.writing.specs.Plain.{Writable, ItemSized, Plain, PlainTold, Ended}
+use Rattle.items.specs.Item.{itemAt}
+use Rattle.itemfields.specs.Fields.{itemPieces}
+use Rattle.itemrows.specs.Plain.{Writable, ItemSized, Plain, PlainTold, Ended}
 use Rattle.writing.proofs.FieldLaws.{endOfFields, end-within, end-behind}
-use Rattle.writing.proofs.PlanLaws.{Planned, planned-as, planned-size, planned-head, planned-room, planned-put}
+use Rattle.itemrows.proofs.PlanLaws.{Planned, planned-as, planned-size, planned-head, planned-room, planned-put}
 use Rattle.writing.proofs.StandLaws.{standing, id-start, stands, stands-rows, stands-body}
 
 -- r says that the record is such
@@ -82,25 +83,25 @@ module _ (s : List ℕ) (at n : ℕ) (out : List (List ℕ)) (r : Bool) (w : Wri
     plain-from base e = omega (arith, fits, id-place)
 
     module _ (small : (i : ℕ) → byteAt s i < 256) where
-      planned : (number : ℕ) → Planned (objectPieces number (objectAt s at)) (take n out) b
+      planned : (number : ℕ) → Planned (itemPieces number (itemAt s at)) (take n out) b
       planned number =
-          planned-as (objectPieces number (objectAt s at)) (sym (stands s at w plainly small number))
+          planned-as (itemPieces number (itemAt s at)) (sym (stands s at w plainly small number))
           (record { rows-are = rows-are ∙ sym (stands-rows s at w plainly number); long = sym (body-long number) })
 
       pub plain-sized : (base : ℕ) → base ≡ baseFor (take n out) → base ≤ 217 → b ≤ 300000 → ItemSized s at (base + b)
       plain-sized base e low few = record { is = λ number. rw e (planned-size (planned number)); few = omega arith }
 
-      pub plain-head : (number place room : ℕ) → place + sizeOf (objectPieces number (objectAt s at)) ≤ room → place + length (headBytes (take n out) b) ≤ room
+      pub plain-head : (number place room : ℕ) → place + sizeOf (itemPieces number (itemAt s at)) ≤ room → place + length (headBytes (take n out) b) ≤ room
       plain-head number place room h = planned-head (planned number) place room h
 
-      pub plain-room : {a d : List ℕ} {place q : ℕ} (number : ℕ) → place + sizeOf (objectPieces number (objectAt s at)) ≤ length a
+      pub plain-room : {a d : List ℕ} {place q : ℕ} (number : ℕ) → place + sizeOf (itemPieces number (itemAt s at)) ≤ length a
           → Wrote a place (headBytes (take n out) b) d q → q + (3 + (b - 3)) ≤ length d
       plain-room number h v = omega (arith, planned-room (planned number) h v, plain-least)
 
       pub plain-put : {a d f : List ℕ} {place q e : ℕ} (number base : ℕ) → base ≡ baseAt s at → Wrote a place (headBytes (take n out) b) d q
-          → Wrote d q (bytesOf 2 number ++ (30 ∷ take (b - 3) (drop (at + base + 3) s))) f e → Wrote a place (recordBytes (objectPieces number (objectAt s at))) f e
+          → Wrote d q (bytesOf 2 number ++ (30 ∷ take (b - 3) (drop (at + base + 3) s))) f e → Wrote a place (recordBytes (itemPieces number (itemAt s at))) f e
       plain-put number base eb v x =
           let from : at + base + 3 ≡ idAt s at = omega (arith, id-place) in
-          let body : bytesOf 2 number ++ (30 ∷ take (b - 3) (drop (at + base + 3) s)) ≡ bodyOf (objectPieces number (objectAt s at)) =
+          let body : bytesOf 2 number ++ (30 ∷ take (b - 3) (drop (at + base + 3) s)) ≡ bodyOf (itemPieces number (itemAt s at)) =
           rw (from, stands s at w plainly small number) (sym (body-is number)) in
-          planned-put (planned number) v (wrote-as (bodyOf (objectPieces number (objectAt s at))) body x)
+          planned-put (planned number) v (wrote-as (bodyOf (itemPieces number (itemAt s at))) body x)

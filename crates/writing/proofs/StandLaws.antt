@@ -23,15 +23,18 @@ use Rattle.table.specs.Text.{bytes}
 use Rattle.layout.specs.Record.{kindAt, contentAt}
 use Rattle.layout.proofs.Promise.{full-first}
 use Rattle.items.specs.Identity.{idAt, rcnmAt}
-use Rattle.items.specs.Lists.{LaidOut, listAt}
-use Rattle.records.specs.Pieces.{Piece, pieceOf, piecesFrom, piecesAt}
+use Rattle.items.specs.Premises.{LaidOut}
+use Rattle.items.specs.Lists.{listAt}
+use Rattle.records.specs.Pieces.{Piece}
+use Rattle.records.specs.Premises.{pieceOf, piecesFrom, piecesAt}
 use Rattle.records.specs.Written.{bodyOf, rowsFor}
-use Rattle.objects.specs.Object.{piece, objectAt, objectPieces, vectorKinds, featureKinds}
-use Rattle.objects.specs.Views.{listIn}
-use Rattle.objects.proofs.ViewLaws.{list-seen}
-use Rattle.writing.specs.Plain.{Writable, tagsOf, untaken, Plain}
-use Rattle.writing.specs.Joined.{fieldPieces, idKinds, keptPieces, leadPieces, joinedPieces}
-use Rattle.writing.proofs.ChosenLaws.{Rising, vector-rising, feature-rising, all-taken}
+use Rattle.items.specs.Item.{itemAt}
+use Rattle.itemfields.specs.Fields.{piece, itemPieces, vectorKinds, featureKinds}
+use Rattle.itemfields.specs.Views.{listIn}
+use Rattle.itemfields.proofs.ViewLaws.{list-seen}
+use Rattle.itemrows.specs.Plain.{Writable, tagsOf, untaken, Plain}
+use Rattle.itemrows.specs.Joined.{fieldPieces, idKinds, keptPieces, leadPieces, joinedPieces}
+use Rattle.itemrows.proofs.ChosenLaws.{Rising, vector-rising, feature-rising, all-taken}
 use Rattle.writing.proofs.FieldLaws.{content-long, filled-as, fields-full, row-is, fields-rows, endOfFields, fields-bytes}
 use Rattle.writing.proofs.CopyLaws.{vector-pieces, feature-pieces}
 
@@ -133,7 +136,7 @@ module _ (s : List ℕ) (at : ℕ) (w : Writable s at) (plain : Plain (directory
         (λ (more : 2 < countAt s at). let g = laid .inside .gapless 1 more in omega (arith, id-start))
         (λ (k : ℕ) (lo : 4 ≤ k) (hi : k < first). list-behind n k long hi (λ (same : kindAt s at 1 ≡ k). omega (arith, vrid)))
 
-    vector-stands : ((i : ℕ) → byteAt s i < 256) → (number n : ℕ) → countAt s at ≡ suc (suc n) → objectPieces number (objectAt s at) ≡ standing number s at
+    vector-stands : ((i : ℕ) → byteAt s i < 256) → (number n : ℕ) → countAt s at ≡ suc (suc n) → itemPieces number (itemAt s at) ≡ standing number s at
     unfolding standing joinedPieces leadPieces keptPieces idKinds
     vector-stands small number n long =
         let rest : countAt s at - 1 ≡ suc n = omega arith in
@@ -166,7 +169,7 @@ module _ (s : List ℕ) (at : ℕ) (w : Writable s at) (plain : Plain (directory
         list-behind (suc n) k long hi (λ (same : kindAt s at 1 ≡ k). omega (arith, frid))
         ∙ list-past s at 2 n k (λ (same : kindAt s at 2 ≡ k). omega (arith, foid)))
 
-    feature-stands : ((i : ℕ) → byteAt s i < 256) → (number n : ℕ) → countAt s at ≡ suc (suc (suc n)) → objectPieces number (objectAt s at) ≡ standing number s at
+    feature-stands : ((i : ℕ) → byteAt s i < 256) → (number n : ℕ) → countAt s at ≡ suc (suc (suc n)) → itemPieces number (itemAt s at) ≡ standing number s at
     unfolding standing joinedPieces leadPieces keptPieces idKinds
     feature-stands small number n long =
         let rest : countAt s at - 1 ≡ suc (suc n) = omega arith in
@@ -181,7 +184,7 @@ module _ (s : List ℕ) (at : ℕ) (w : Writable s at) (plain : Plain (directory
     three = w .known .feature is-feature .third
 
   -- ---- the held form's fields are the record's own
-  pub stands : ((i : ℕ) → byteAt s i < 256) → (number : ℕ) → objectPieces number (objectAt s at) ≡ standing number s at
+  pub stands : ((i : ℕ) → byteAt s i < 256) → (number : ℕ) → itemPieces number (itemAt s at) ≡ standing number s at
   unfolding fieldAt
   stands small number =
       ⊎-elim

@@ -8,27 +8,28 @@ use native.Mathlib.Omega.{arith}
 use lib.ListN.{length}
 use Rattle.octets.specs.Area.{Has}
 use Rattle.iso8211.specs.Field.{FieldsIn}
-use Rattle.records.specs.Pieces.{piecesAt}
+use Rattle.records.specs.Premises.{piecesAt}
 use Rattle.records.specs.Written.{recordBytes, sizeOf}
 use Rattle.records.proofs.WrittenLaws.{loose-read, loose-pieces, few-loose}
-use Rattle.objects.specs.Object.{Object, objectPieces, vectorPieces, featurePieces}
-use Rattle.objects.proofs.ViewLaws.{values-seen}
-use Rattle.objects.proofs.ObjectLaws.{vector-back, feature-back, valued-vector, valued-feature}
-use Rattle.objects.proofs.ItemLaws.{vector-few, feature-few, vector-laid, vector-known, feature-laid, feature-known}
+use Rattle.items.specs.Item.{Item}
+use Rattle.itemfields.specs.Fields.{itemPieces, vectorPieces, featurePieces}
+use Rattle.itemfields.proofs.ViewLaws.{values-seen}
+use Rattle.itemfields.proofs.FieldsLaws.{vector-back, feature-back, valued-vector, valued-feature}
+use Rattle.itemfields.proofs.ItemLaws.{vector-few, feature-few, vector-laid, vector-known, feature-laid, feature-known}
 use Rattle.header.proofs.FirstLaws.{first-declares}
 use Rattle.held.specs.Good.{Good}
 use Rattle.held.specs.Good.Good.{a-vector, a-feature}
 use Rattle.held.proofs.FileLaws.{vector-pieces, feature-pieces}
-use Rattle.writing.specs.Plain.{Stood}
+use Rattle.itemrows.specs.Plain.{Stood}
 use Rattle.writing.proofs.WritableLaws.{writable}
 
 -- its fields are few
-few : {aall nall : ℕ} (n : ℕ) (t : Object) → Good aall nall t → (1 ≤ length (objectPieces n t)) × (length (objectPieces n t) ≤ 8)
+few : {aall nall : ℕ} (n : ℕ) (t : Item) → Good aall nall t → (1 ≤ length (itemPieces n t)) × (length (itemPieces n t) ≤ 8)
 few n t (a-vector v) = rw (vector-pieces n t v) (let f = vector-few n t in (omega arith, omega arith))
 few n t (a-feature g) = rw (feature-pieces n t g) (let f = feature-few n t in (omega arith, omega arith))
 
 -- a record with its fields
-pub stood-pieces : {aall nall : ℕ} (n : ℕ) (t : Object) {s : List ℕ} {at : ℕ} → Good aall nall t → FieldsIn s at → piecesAt s at ≡ objectPieces n t → Stood s at t
+pub stood-pieces : {aall nall : ℕ} (n : ℕ) (t : Item) {s : List ℕ} {at : ℕ} → Good aall nall t → FieldsIn s at → piecesAt s at ≡ itemPieces n t → Stood s at t
 stood-pieces {aall} {nall} n t {s} {at} (a-vector v) inside seen =
     let is : piecesAt s at ≡ vectorPieces n t = seen ∙ vector-pieces n t v in
     let fine = values-seen false aall nall s at (vectorPieces n t) is (valued-vector n t v) in
@@ -45,9 +46,9 @@ stood-pieces {aall} {nall} n t {s} {at} (a-feature f) inside seen =
     }
 
 -- a record as it was written
-pub stood : {aall nall : ℕ} (n : ℕ) (t : Object) {s : List ℕ} {at : ℕ} → Good aall nall t → sizeOf (objectPieces n t) ≤ 300000
-    → Has s at (recordBytes (objectPieces n t)) → Stood s at t
+pub stood : {aall nall : ℕ} (n : ℕ) (t : Item) {s : List ℕ} {at : ℕ} → Good aall nall t → sizeOf (itemPieces n t) ≤ 300000
+    → Has s at (recordBytes (itemPieces n t)) → Stood s at t
 stood n t good small has =
     let f = few n t good in
-    let read = loose-read (objectPieces n t) (few-loose (objectPieces n t) (f .0) (f .1) small) has in
-    stood-pieces n t good (read .inside) (loose-pieces (objectPieces n t) read)
+    let read = loose-read (itemPieces n t) (few-loose (itemPieces n t) (f .0) (f .1) small) has in
+    stood-pieces n t good (read .inside) (loose-pieces (itemPieces n t) read)

@@ -13,18 +13,19 @@ use Rattle.iso8211.specs.Field.{countAt, fieldAt}
 use Rattle.iso8211.specs.File.{recordAt}
 use Rattle.table.specs.Table.{VRID, FRID}
 use Rattle.values.specs.Vrid.{isVector}
-use Rattle.values.proofs.Promise.{vrid-good, frid-good}
+use Rattle.headvalues.proofs.Promise.{vrid-good, frid-good}
 use Rattle.attributes.proofs.PartLaws.{part-byte}
 use Rattle.layout.specs.Record.{kindAt, contentAt}
 use Rattle.layout.proofs.Promise.{full-vrid, full-frid}
-use Rattle.chart.specs.Value.{valueFault}
+use Rattle.fieldvalue.specs.Value.{valueFault}
 use Rattle.chart.specs.Read.{readFault}
 use Rattle.chart.proofs.Promise.{fair, fair-vrid, fair-frid, good-records}
-use Rattle.items.specs.Identity.{idAt, rcnmAt, ruinAt, Identified}
-use Rattle.items.specs.Lists.{LaidOut}
-use Rattle.names.specs.Names.{firstItem, Readable}
-use Rattle.objects.proofs.ObjectLaws.{class-small}
-use Rattle.writing.specs.Plain.{Writable}
+use Rattle.items.specs.Identity.{idAt, rcnmAt, ruinAt}
+use Rattle.items.specs.Premises.{LaidOut, Identified}
+use Rattle.names.specs.Premises.{Readable}
+use Rattle.names.specs.Names.{firstItem}
+use Rattle.itemfields.proofs.FieldsLaws.{class-small}
+use Rattle.itemrows.specs.Plain.{Writable}
 use Rattle.writing.proofs.FieldLaws.{content-long, filled-as}
 
 module _ (update : Bool) (aall nall : ℕ) (s : List ℕ) (at : ℕ) (laid : LaidOut s at) (known : Identified s at) (fine : valueFault update aall nall s at ≡ 0) where

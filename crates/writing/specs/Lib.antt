@@ -1,4 +1,2 @@
 -- The notions of `writing`, in the order in which a reader should meet them.
-pub mod Plain
-pub mod Joined
 pub mod All

@@ -6,6 +6,7 @@ ghost use Rattle.words.specs.Words.{wordsIn};
 ghost use Rattle.writing.specs.All.{Words, AllSized, writtenFrom};
 use crate::item::put_item;
 use crate::item::size_of;
+use items::word;
 use records::head::larger;
 use words::get;
 
@@ -26,7 +27,7 @@ pub fn measure(s: &[u8], m: usize, work: &[u8]) -> Sizes
     let mut k: usize = 0;
     while k < m {
         let w = get(work, k);
-        let size = size_of(s, (w % 16777216) as usize);
+        let size = size_of(s, (w % word::NAME_WEIGHT) as usize);
         sum += size as usize;
         most = larger(most, size);
         k += 1;
@@ -44,7 +45,13 @@ pub fn put_items(s: &[u8], m: usize, work: &[u8], out: &mut [u8], place: usize) 
     let mut k: usize = 0;
     while k < m {
         let w = get(work, k);
-        next = put_item(s, (w % 16777216) as usize, out, next, (k + 3) as u32);
+        next = put_item(
+            s,
+            (w % word::NAME_WEIGHT) as usize,
+            out,
+            next,
+            (k + 3) as u32,
+        );
         k += 1;
     }
     next

@@ -4,15 +4,16 @@ ghost use Prim.Native.Nat.{_+_, _≤_};
 ghost use lib.ListN.{length};
 ghost use Rattle.octets.specs.Area.{Wrote};
 ghost use Rattle.records.specs.Written.{recordBytes, sizeOf};
-ghost use Rattle.objects.specs.Object.{objectAt, objectPieces};
-ghost use Rattle.writing.specs.Plain.{Writable, ItemSized};
+ghost use Rattle.items.specs.Item.{itemAt};
+ghost use Rattle.itemfields.specs.Fields.{itemPieces};
+ghost use Rattle.itemrows.specs.Plain.{Writable, ItemSized};
 use crate::joined::put_joined;
 use crate::joined::size_joined;
-use crate::lead::put_lead;
-use crate::plain::body_of;
-use crate::plain::is_plain;
-use crate::plain::rows_of;
 use iso8211::field::head_of;
+use itemrows::lead::put_lead;
+use itemrows::plain::body_of;
+use itemrows::plain::is_plain;
+use itemrows::plain::rows_of;
 use records::head::base_of;
 use records::head::put_head;
 
@@ -32,8 +33,8 @@ pub fn size_of(s: &[u8], at: usize) -> u32
 
 // The record of the item at `at`, in held form.
 pub fn put_item(s: &[u8], at: usize, out: &mut [u8], place: usize, number: u32) -> usize
-    requires { ⌜ Writable (now s) at × (place + sizeOf (objectPieces number (objectAt (now s) at)) ≤ length (now out)) ⌝ }
-    ensures { λ r. ⌜ Wrote (now (out .entry)) place (recordBytes (objectPieces number (objectAt (now (s .entry)) at))) (now (out .exit)) r ⌝ }
+    requires { ⌜ Writable (now s) at × (place + sizeOf (itemPieces number (itemAt (now s) at)) ≤ length (now out)) ⌝ }
+    ensures { λ r. ⌜ Wrote (now (out .entry)) place (recordBytes (itemPieces number (itemAt (now (s .entry)) at))) (now (out .exit)) r ⌝ }
 {
     let h = head_of(s, at);
     if !is_plain(s, at, h) {

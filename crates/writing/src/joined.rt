@@ -3,25 +3,28 @@
 ghost use Prim.Native.Nat.{_+_, _-_, _≤_};
 ghost use lib.ListN.{length};
 ghost use Rattle.octets.specs.Area.{Wrote};
-ghost use Rattle.iso8211.specs.Field.{HeadOf};
-ghost use Rattle.items.specs.Lists.{LaidOut};
+ghost use Rattle.iso8211.specs.Premises.{HeadOf};
 ghost use Rattle.records.specs.Written.{recordBytes, sizeOf};
-ghost use Rattle.objects.specs.Object.{objectAt, objectPieces};
-ghost use Rattle.writing.specs.Plain.{Writable, ItemSized};
-ghost use Rattle.writing.specs.Joined.{joinedBody, joinedPieces, Totals, Tagged, Lead, Sized};
-use crate::lead::feature_rows;
-use crate::lead::put_lead;
-use crate::lead::vector_rows;
-use crate::lists::put_lists;
-use crate::lists::totals;
-use crate::rows::count_of;
-use crate::rows::list_rows;
-use crate::rows::sum_of;
+ghost use Rattle.items.specs.Item.{itemAt};
+ghost use Rattle.itemfields.specs.Fields.{itemPieces};
+ghost use Rattle.itemrows.specs.Plain.{Writable, ItemSized};
+ghost use Rattle.itemrows.specs.Joined.{joinedBody, joinedPieces, Totals, Tagged, Lead, Sized};
 use iso8211::field::Head;
 use iso8211::field::field_at;
+use itemrows::lead::feature_rows;
+use itemrows::lead::put_lead;
+use itemrows::lead::vector_rows;
+use itemrows::rows::count_of;
+use itemrows::rows::list_rows;
+use itemrows::rows::sum_of;
 use items::identity::rcnm_of;
+use joining::lists::put_lists;
+use joining::lists::totals;
 use records::head::base_of;
 use records::head::put_head;
+use table::kinds;
+use table::tags;
+ghost use Rattle.items.specs.Premises.{LaidOut};
 
 // All fields, one after the other.
 fn put_fields(
@@ -101,29 +104,29 @@ pub fn size_joined(s: &[u8], at: usize, h: Head) -> u32
 {
     if rcnm_of(s, at, h) == 100 {
         let rows = feature_rows();
-        let kinds = [12, 13, 15, 17];
-        let tags = [0x41545446, 0x4E415446, 0x46465054, 0x46535054];
+        let kinds = [kinds::ATTF, kinds::NATF, kinds::FFPT, kinds::FSPT];
+        let tags = [tags::ATTF, tags::NATF, tags::FFPT, tags::FSPT];
         return size_record(s, at, h, 2, 25, rows, kinds, tags);
     }
     let rows = vector_rows();
-    let kinds = [4, 6, 8, 9];
-    let tags = [0x41545456, 0x56525054, 0x53473244, 0x53473344];
+    let kinds = [kinds::ATTV, kinds::VRPT, kinds::SG2D, kinds::SG3D];
+    let tags = [tags::ATTV, tags::VRPT, tags::SG2D, tags::SG3D];
     size_record(s, at, h, 1, 12, rows, kinds, tags)
 }
 
 // The record of the item at `at`, its lists joined.
 pub fn put_joined(s: &[u8], at: usize, h: Head, out: &mut [u8], place: usize, number: u32) -> usize
-    requires { ⌜ Writable (now s) at × HeadOf (now s) at h × (place + sizeOf (objectPieces number (objectAt (now s) at)) ≤ length (now out)) ⌝ }
-    ensures { λ r. ⌜ Wrote (now (out .entry)) place (recordBytes (objectPieces number (objectAt (now (s .entry)) at))) (now (out .exit)) r ⌝ }
+    requires { ⌜ Writable (now s) at × HeadOf (now s) at h × (place + sizeOf (itemPieces number (itemAt (now s) at)) ≤ length (now out)) ⌝ }
+    ensures { λ r. ⌜ Wrote (now (out .entry)) place (recordBytes (itemPieces number (itemAt (now (s .entry)) at))) (now (out .exit)) r ⌝ }
 {
     if rcnm_of(s, at, h) == 100 {
         let rows = feature_rows();
-        let kinds = [12, 13, 15, 17];
-        let tags = [0x41545446, 0x4E415446, 0x46465054, 0x46535054];
+        let kinds = [kinds::ATTF, kinds::NATF, kinds::FFPT, kinds::FSPT];
+        let tags = [tags::ATTF, tags::NATF, tags::FFPT, tags::FSPT];
         return put_record(s, at, h, 2, 25, rows, kinds, tags, out, place, number);
     }
     let rows = vector_rows();
-    let kinds = [4, 6, 8, 9];
-    let tags = [0x41545456, 0x56525054, 0x53473244, 0x53473344];
+    let kinds = [kinds::ATTV, kinds::VRPT, kinds::SG2D, kinds::SG3D];
+    let tags = [tags::ATTV, tags::VRPT, tags::SG2D, tags::SG3D];
     put_record(s, at, h, 1, 12, rows, kinds, tags, out, place, number)
 }

@@ -1,11 +1,22 @@
-// The vectors and features of a cell in held form. It promises to the crate above: `measure`, how
+// The vectors and features of a cell in held form. It promises to the crates above: `measure`, how
 // long the records of the cell's items are together and the longest of them; `put_items`, their
-// bytes, one behind the other. It takes the rows and the leader of a record from `records`, what an
-// item's fields are from `objects`, and from the crates below a cell in which nothing was refused.
+// bytes, one behind the other; `size_of` and `put_item`, the same of one item. It takes the rows of a
+// record from `itemrows`, its lists from `joining`, what an item's fields are from `itemfields`, and from
+// the crates below a cell in which nothing was refused.
 pub mod all;
 pub mod item;
 pub mod joined;
-pub mod lead;
-pub mod lists;
-pub mod plain;
-pub mod rows;
+
+// The sizes of the records of the items of m words: for the limits of the held form, and for
+// the room that `put_items` asks for.
+pub use all::measure;
+
+// The records of the items of m words, in the order of the words, from `place` on; the answer
+// is where they end.
+pub use all::put_items;
+
+// How long the record of the item at `at` is in held form.
+pub use item::size_of;
+
+// The record of the item at `at`, in held form.
+pub use item::put_item;

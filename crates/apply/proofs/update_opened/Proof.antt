@@ -1,6 +1,6 @@
 -- Refused at once, or applied to the end. Assumes nothing.
-use Rattle.apply.proofs.ApplyLaws.{second-refused, second-kept, second-on, second-area}
-use Rattle.reader.proofs.CallLaws.{counted}
+use Rattle.apply.proofs.ApplyLaws.{second-refused, second-kept, area-applied}
+use Rattle.judging.proofs.JudgeLaws.{told-count}
 use borrow.Author.Needs.{needs}
 use Rattle.apply.proofs.update_opened.Statement.{statement}
 use Rattle.apply.proofs.update_opened.Tie as tie
@@ -15,10 +15,16 @@ enum-known-front-2 : tie.Need-enum-known-front-2
 enum-known-front-2 c = search needs
 
 applied-requires : tie.Need-applied-requires
-applied-requires c κs = (c .before .before .before .before .before .before .before .before .before .before .pre, counted 2 _ _ _ (c .before .before .before .before .before .opened .ensures) (search needs))
+applied-requires c κs = (
+  c .before .before .before .before .before .before .before .before .before .before .pre,
+  told-count 2 _ _ _ (c .before .before .before .before .before .opened .ensures) (search needs),
+)
 
 returns : tie.Need-returns
-returns c = (second-refused _ _ _ _ _ (c .before .before .before .opened .ensures) _ _ (search needs), second-kept _ _ _ _ _ (c .before .before .before .opened .ensures) _ (c .before .front .given .0 .0) (search needs))
+returns c =
+    let front = c .before .before .before .before .before .before .before .before .pre in
+    let second = c .before .before .before .opened .ensures in
+    (second-refused _ _ _ front _ second _ (search needs) _ _, second-kept _ _ _ front _ second (c .before .front .given .0 .0) (search needs) _ _)
 
 same-length : tie.Need-same-length
 same-length c = search needs
@@ -27,7 +33,14 @@ same-length-2 : tie.Need-same-length-2
 same-length-2 c = search needs
 
 returns-2 : tie.Need-returns-2
-returns-2 c = (second-on _ _ _ _ _ (c .before .before .before .before .before .before .before .before .before .before .opened .ensures) (c .before .before .before .before .before .before .before .before .front2 .given .0 .0) (search needs) _ _ (c .before .before .before .before .applied .ensures .0), second-area _ _ _ _ _ (c .before .before .before .before .before .before .before .before .before .before .opened .ensures) (c .before .before .before .before .before .before .before .before .front2 .given .0 .0) (search needs) _ _ _ (c .before .before .before .before .applied .ensures .0) (c .before .before .before .before .applied .ensures .1))
+returns-2 c =
+    let call = c .before .before .before .before .applied in
+    let second = told-count 2 _ _ (c .before .before .before .before .before .before .before .before .front2 .given .0 .0)
+    (c .before .before .before .before .before .before .before .before .before .before .opened .ensures) (search needs) in (
+      call .ensures .0,
+      area-applied _ _ _ _ (c .before .before .before .before .before .before .before .before .before .before .before .before .before .before .before .pre)
+          second _ _ _ _ (call .ensures .0) (call .ensures .1),
+    )
 
 pub update-opened-spec : {M : Type 1} → statement M
 update-opened-spec =

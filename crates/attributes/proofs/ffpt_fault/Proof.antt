@@ -2,7 +2,6 @@
 use Prim.Native.Nat.{_≤_, _-_}
 use lib.ListN.{length}
 use borrow.Author.Needs.{needs}
-use Rattle.attributes.specs.Attributes.{pointer}
 use Rattle.attributes.proofs.FfptLaws.{Walked, walked-start, walked-end, walked-rind, walked-comment, walked-on, pointer-within}
 use Rattle.attributes.proofs.PartLaws.{pointer-long}
 use Rattle.attributes.proofs.ffpt_fault.Statement.{statement}
@@ -32,14 +31,20 @@ comment-good-requires c κs = (search (needs, pointer-long), search needs)
 returns-3 : tie.Need-returns-3 Inv-loop μ-loop
 returns-3 c =
     let passed = c .before .before .before in
-    let measured = passed .before .before in
-    (walked-comment (measured .before .loop .inv .1) _ (measured .entry-len-at .ensures .0) (passed .before .if1 .left) (measured .entry-len-at .ensures .1) _ (passed .rind-good .ensures) (c .before .before .if2 .left) _ (c .before .comment-good .ensures) (c .if3 .taken), search (needs, pointer-within))
+    let measured = passed .before .before in (
+      walked-comment (measured .before .loop .inv .1) _ (measured .entry-len-at .ensures .0) (passed .before .if1 .left)
+          (measured .entry-len-at .ensures .1) _ (passed .rind-good .ensures) (c .before .before .if2 .left) _ (c .before .comment-good .ensures) (c .if3 .taken),
+      search (needs, pointer-within),
+    )
 
 loop-again : tie.Need-loop-again Inv-loop μ-loop
 loop-again c =
     let passed = c .before .before .before in
-    let measured = passed .before .before in
-    (search needs, walked-on (measured .before .loop .inv .1) _ (measured .entry-len-at .ensures .0) (passed .before .if1 .left) (measured .entry-len-at .ensures .1) _ (passed .rind-good .ensures) (c .before .before .if2 .left) _ (c .before .comment-good .ensures) (c .if3 .left))
+    let measured = passed .before .before in (
+      search needs,
+      walked-on (measured .before .loop .inv .1) _ (measured .entry-len-at .ensures .0) (passed .before .if1 .left)
+          (measured .entry-len-at .ensures .1) _ (passed .rind-good .ensures) (c .before .before .if2 .left) _ (c .before .comment-good .ensures) (c .if3 .left),
+    )
 
 pub ffpt-fault-spec : {M : Type 1} → statement M
 ffpt-fault-spec =

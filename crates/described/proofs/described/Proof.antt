@@ -1,5 +1,5 @@
 -- Each test is the definition's, in its order; the fields behind 0001 are those of the definition's walk.
-use Rattle.described.proofs.DescribedLaws.{field-room, few-fields, zeroth-other, one-other, one-wrong, rest-left}
+use Rattle.declarations.proofs.DescribedLaws.{field-room, few-fields, zeroth-other, one-other, one-wrong, rest-left}
 use borrow.Author.Needs.{needs}
 use Rattle.described.proofs.described.Statement.{statement}
 use Rattle.described.proofs.described.Tie as tie
@@ -32,7 +32,9 @@ returns-3 : tie.Need-returns-3
 returns-3 c = (search (needs, one-other), search needs)
 
 describes-at-requires : tie.Need-describes-at-requires
-describes-at-requires c κs = field-room _ 1 _ _ (c .before .before .before .before .before .before .before .before .before .before .pre) (c .before .before .before .before .before .before .before .before .head-of .ensures .count) (c .before .before .before .before .before .before .if1 .left) (c .before .before .field-at2 .ensures)
+describes-at-requires c κs = field-room _ 1 _ _ (c .before .before .before .before .before .before .before .before .before .before .pre)
+    (c .before .before .before .before .before .before .before .before .head-of .ensures .count) (c .before .before .before .before .before .before .if1 .left)
+    (c .before .before .field-at2 .ensures)
 
 refused-requires-4 : tie.Need-refused-requires-4
 refused-requires-4 c κs = search needs

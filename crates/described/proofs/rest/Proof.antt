@@ -3,8 +3,8 @@ use Prim.Native.Nat.{_-_}
 use mathlib.Core.Path.{_≡_}
 use lib.ListN.{length}
 use Rattle.iso8211.specs.Field.{countAt}
-use Rattle.described.specs.Described.{describedFrom, none}
-use Rattle.described.proofs.DescribedLaws.{field-room, turn-unknown, turn-twice, turn-other, turn-on, turn-end}
+use Rattle.declarations.specs.Described.{describedFrom, none}
+use Rattle.declarations.proofs.DescribedLaws.{field-room, turn-unknown, turn-twice, turn-other, turn-on, turn-end}
 use borrow.Author.Needs.{needs}
 use Rattle.described.proofs.rest.Statement.{statement}
 use Rattle.described.proofs.rest.Tie as tie

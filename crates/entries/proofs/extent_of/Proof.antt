@@ -10,7 +10,8 @@ use Rattle.entries.proofs.extent_of.Statement.{statement}
 use Rattle.entries.proofs.extent_of.Tie as tie
 
 abbrev Inv-loop : tie.InvT-loop
-Inv-loop b sh at₀ count₀ at count = (at ≤ length b) × (count ≤ at) × (length (entriesOf sh b) ≡ count + length (entriesOf sh (drop at b))) × (length (flatten (entriesOf sh b)) ≡ at + length (flatten (entriesOf sh (drop at b))))
+Inv-loop b sh at₀ count₀ at count = (at ≤ length b) × (count ≤ at) × (length (entriesOf sh b) ≡ count + length (entriesOf sh (drop at b)))
+    × (length (flatten (entriesOf sh b)) ≡ at + length (flatten (entriesOf sh (drop at b))))
 
 abbrev μ-loop : tie.MeasureT-loop
 μ-loop b sh at₀ count₀ at count = length b - at

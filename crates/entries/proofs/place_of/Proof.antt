@@ -2,7 +2,7 @@
 use Prim.Native.Nat.{_≤_, _-_, _+_}
 use mathlib.Core.Path.{_≡_}
 use lib.ListN.{length, drop}
-use Rattle.entries.specs.Entries.{place}
+use Rattle.entries.specs.Premises.{place}
 use Rattle.entries.proofs.WalkLaws.{place-there, place-out, place-on}
 use borrow.Author.Needs.{needs}
 use Rattle.entries.proofs.place_of.Statement.{statement}

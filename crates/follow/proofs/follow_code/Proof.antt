@@ -1,5 +1,5 @@
 -- DSID first, then the levels. Assumes nothing.
-use Rattle.reissue.proofs.FrontLaws.{lent-known}
+use Rattle.fronts.proofs.FrontLaws.{lent-known}
 use Rattle.follow.proofs.FollowLaws.{dsid-inside, dsid-second, code-dsid, code-level, code-fine}
 use borrow.Author.Needs.{needs}
 use Rattle.follow.proofs.follow_code.Statement.{statement}

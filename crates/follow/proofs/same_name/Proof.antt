@@ -4,6 +4,9 @@ use borrow.Author.Needs.{needs}
 use Rattle.follow.proofs.same_name.Statement.{statement}
 use Rattle.follow.proofs.same_name.Tie as tie
 
+add-to : tie.Need-add-to
+add-to c = search needs
+
 sub-same-bytes : tie.Need-sub-same-bytes
 sub-same-bytes c = search needs
 
@@ -22,4 +25,4 @@ returns c = search (needs, name-same)
 pub same-name-spec : {M : Type 1} → statement M
 same-name-spec =
     tie.close
-    (tie.spec sub-same-bytes part-same-bytes-start part-same-bytes-end same-bytes-requires returns)
+    (tie.spec add-to sub-same-bytes part-same-bytes-start part-same-bytes-end same-bytes-requires returns)

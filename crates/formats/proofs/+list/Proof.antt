@@ -74,13 +74,21 @@ pub +list-spec : {M : Type 1} → statement M
     (λ c. search (needs, turn-none))
     -- the list is closed
     (λ c κs. search needs)
-    (λ c. omega (arith, c .before .before .byte2 .ensures .inside, c .before .before .before .before .before .before .before .before .before .before .before .before .before .before .before .good .0 .0))
+    (λ c. omega (
+      arith,
+      c .before .before .byte2 .ensures .inside,
+      c .before .before .before .before .before .before .before .before .before .before .before .before .before .before .before .good .0 .0,
+    ))
     (λ c. search (needs, turn-closed))
     -- neither bracket nor comma
     (λ c κs. search needs)
     (λ c. search (needs, turn-open))
     -- a comma
-    (λ c. omega (arith, c .before .before .byte2 .ensures .inside, c .before .before .before .before .before .before .before .before .before .before .before .before .before .before .before .good .0 .0))
+    (λ c. omega (
+      arith,
+      c .before .before .byte2 .ensures .inside,
+      c .before .before .before .before .before .before .before .before .before .before .before .before .before .before .before .good .0 .0,
+    ))
     (λ c. search needs)
     (λ c. search needs)
     (λ c. (search needs, search (needs, turn-further)))

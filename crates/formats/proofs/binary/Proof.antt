@@ -44,7 +44,8 @@ add-t5 : tie.Need-add-t5
 add-t5 c = search needs
 
 returns-3 : tie.Need-returns-3
-returns-3 c = binary-both _ (c .before .before .before .before .before .digit .ensures) (c .before .before .before .before .digit2 .ensures) (c .before .before .before .counting .ensures) (c .before .before .if1 .left) (c .before .counting2 .ensures) (c .if2 .left)
+returns-3 c = binary-both _ (c .before .before .before .before .before .digit .ensures) (c .before .before .before .before .digit2 .ensures)
+    (c .before .before .before .counting .ensures) (c .before .before .if1 .left) (c .before .counting2 .ensures) (c .if2 .left)
 
 pub binary-spec : {M : Type 1} → statement M
 binary-spec =

@@ -24,10 +24,18 @@ returns-3 : tie.Need-returns-3
 returns-3 c = search (needs, join-over)
 
 mul-if4 : tie.Need-mul-if4
-mul-if4 c = omega (arith, few-times (c .before .before .before .before .before .args .times) (c .before .before .before .before .before .args .part .count) (omega arith) (omega arith))
+mul-if4 c = omega (
+  arith,
+  few-times (c .before .before .before .before .before .args .times) (c .before .before .before .before .before .args .part .count) (omega arith)
+      (omega arith),
+)
 
 add-if4 : tie.Need-add-if4
-add-if4 c = omega (arith, few-times (c .before .before .before .before .before .before .args .times) (c .before .before .before .before .before .before .args .part .count) (omega arith) (omega arith))
+add-if4 c = omega (
+  arith,
+  few-times (c .before .before .before .before .before .before .args .times) (c .before .before .before .before .before .before .args .part .count)
+      (omega arith) (omega arith),
+)
 
 none-requires-4 : tie.Need-none-requires-4
 none-requires-4 c κs = search needs

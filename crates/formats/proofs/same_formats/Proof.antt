@@ -3,7 +3,7 @@ use Prim.Native.Nat.{_≤_, _-_}
 use mathlib.Core.Path.{_≡_}
 use native.Mathlib.Omega.{arith}
 use lib.ListN.{take, drop}
-use Rattle.iso8211.specs.Same.{sameList}
+use Rattle.fieldparts.specs.Same.{sameList}
 use Rattle.formats.proofs.FormatsLaws.{formats-unlike, formats-other, formats-alike, formats-end}
 use borrow.Author.Needs.{needs}
 use Rattle.formats.proofs.same_formats.Statement.{statement}

@@ -2,7 +2,8 @@
 use Prim.Native.Nat.{_-_, _≤_}
 use mathlib.Core.Path.{_≡_}
 use native.Mathlib.Omega.{arith}
-use Rattle.iso8211.specs.Field.{countAt, Due}
+use Rattle.iso8211.specs.Field.{countAt}
+use Rattle.iso8211.specs.Premises.{Due}
 use Rattle.iso8211.proofs.Promise.{due-first, due-next}
 use Rattle.layout.specs.Layout.{layoutFault, laidFrom}
 use Rattle.layout.proofs.LayoutLaws.{field-fits, field-long, start-within, laid-start, turn-wrong, turn-on, end-missing, end-good}
@@ -11,7 +12,8 @@ use Rattle.layout.proofs.layout_fault.Statement.{statement}
 use Rattle.layout.proofs.layout_fault.Tie as tie
 
 abbrev Inv-loop : tie.InvT-loop
-Inv-loop s at marks update stage head count prev₀ due₀ j₀ prev due j = (count ≡ countAt s at) × (j ≤ count) × Due s at j due × (layoutFault update stage marks s at ≡ laidFrom (countAt s at - j) update stage marks s at j prev)
+Inv-loop s at marks update stage head count prev₀ due₀ j₀ prev due j = (count ≡ countAt s at) × (j ≤ count) × Due s at j due
+    × (layoutFault update stage marks s at ≡ laidFrom (countAt s at - j) update stage marks s at j prev)
 
 abbrev μ-loop : tie.MeasureT-loop
 μ-loop s at marks update stage head count prev₀ due₀ j₀ prev due j = count - j
@@ -20,7 +22,8 @@ head-of-requires : tie.Need-head-of-requires Inv-loop μ-loop
 head-of-requires c κs = search needs
 
 add-due : tie.Need-add-due Inv-loop μ-loop
-add-due c = let h = (c .before .head-of .ensures .base) in let high = (c .before .before .before .before .pre .0 .framed .high) in let fits = (c .before .before .before .before .pre .0 .framed .fits) in omega arith
+add-due c = let h = (c .before .head-of .ensures .base) in let high = (c .before .before .before .before .pre .0 .framed .high) in let fits =
+    (c .before .before .before .before .pre .0 .framed .fits) in omega arith
 
 loop-holds : tie.Need-loop-holds Inv-loop μ-loop
 loop-holds c = (search needs, search needs, due-first _ (c .before .before .before .before .pre .0) (omega arith), search (needs, laid-start))
@@ -38,7 +41,12 @@ kind-of-requires : tie.Need-kind-of-requires Inv-loop μ-loop
 kind-of-requires c κs = search needs
 
 add-due-2 : tie.Need-add-due-2 Inv-loop μ-loop
-add-due-2 c = omega (arith, field-fits _ _ _ _ (c .before .before .before .before .before .before .before .before .before .before .before .pre .0) (c .before .before .before .before .before .before .loop .inv .0) (c .before .before .before .before .before .loop-test .taken) _ (c .before .before .before .before .field-on .ensures))
+add-due-2 c = omega (
+  arith,
+  field-fits _ _ _ _ (c .before .before .before .before .before .before .before .before .before .before .before .pre .0)
+      (c .before .before .before .before .before .before .loop .inv .0) (c .before .before .before .before .before .loop-test .taken)
+      _ (c .before .before .before .before .field-on .ensures),
+)
 
 add-j : tie.Need-add-j Inv-loop μ-loop
 add-j c = search needs
@@ -47,7 +55,14 @@ loop-less : tie.Need-loop-less Inv-loop μ-loop
 loop-less c = search needs
 
 loop-again : tie.Need-loop-again Inv-loop μ-loop
-loop-again c = ((c .before .before .before .before .before .before .loop .inv .0), omega arith, due-next _ _ (c .before .before .before .before .before .before .before .before .before .before .before .pre .0) (c .before .before .before .before .field-on .ensures), turn-on _ _ _ _ _ _ _ _ (c .before .before .before .before .before .before .loop .inv .0) (c .before .before .before .before .before .before .loop .inv .3) (c .before .before .before .before .before .loop-test .taken) _ (c .before .before .before .before .field-on .ensures) _ (c .before .before .before .field-laid .ensures) _ (c .before .kind-of .ensures .0) (c .before .before .if1 .left))
+loop-again c = (
+  (c .before .before .before .before .before .before .loop .inv .0),
+  omega arith,
+  due-next _ _ (c .before .before .before .before .before .before .before .before .before .before .before .pre .0) (c .before .before .before .before .field-on .ensures),
+  turn-on _ _ _ _ _ _ _ _ (c .before .before .before .before .before .before .loop .inv .0) (c .before .before .before .before .before .before .loop .inv .3)
+      (c .before .before .before .before .before .loop-test .taken) _ (c .before .before .before .before .field-on .ensures) _ (c .before .before .before .field-laid .ensures)
+      _ (c .before .kind-of .ensures .0) (c .before .before .if1 .left),
+)
 
 may-end-requires : tie.Need-may-end-requires Inv-loop μ-loop
 may-end-requires c κs = search needs

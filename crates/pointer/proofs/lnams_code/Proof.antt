@@ -7,7 +7,8 @@ use Rattle.table.specs.Table.{FFPT}
 use Rattle.items.specs.Lists.{entriesAt}
 use Rattle.items.specs.Cursors.{left, CursorIn}
 use Rattle.items.proofs.CursorLaws.{begin-in, next-up, next-within, next-less, next-in}
-use Rattle.pointer.specs.Pointer.{lnamsCode, heldFoid}
+use Rattle.pointer.specs.Pointer.{lnamsCode}
+use Rattle.pointer.specs.Premises.{heldFoid}
 use Rattle.pointer.proofs.PointerLaws.{lnam-bytes, lnams-begin, lnams-done, lnams-missing, lnams-on}
 use borrow.Author.Needs.{needs}
 use Rattle.pointer.proofs.lnams_code.Statement.{statement}

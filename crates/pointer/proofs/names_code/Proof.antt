@@ -5,7 +5,7 @@ use Rattle.words.specs.Words.{wordsIn}
 use Rattle.items.specs.Lists.{entriesAt}
 use Rattle.items.specs.Cursors.{left, CursorIn}
 use Rattle.items.proofs.CursorLaws.{begin-in, next-up, next-within, next-less, next-in}
-use Rattle.names.specs.Lookup.{indexOf}
+use Rattle.lookups.specs.LookupWords.{indexOf}
 use Rattle.pointer.specs.Pointer.{namesCode}
 use Rattle.pointer.proofs.PointerLaws.{name-bytes, names-begin, names-done, names-missing, names-on}
 use borrow.Author.Needs.{needs}

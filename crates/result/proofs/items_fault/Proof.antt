@@ -3,14 +3,16 @@ use Prim.Native.Nat.{_-_, _≤_}
 use mathlib.Core.Path.{_≡_}
 use lib.ListN.{length}
 use Rattle.topology.specs.Notes.{notedCode}
-use Rattle.result.specs.Able.{Rooms}
+use Rattle.resultitems.specs.Able.{Rooms}
 use Rattle.result.proofs.FaultLaws.{Judged, judged-start, judged-able, judged-found, judged-on, judged-done}
 use borrow.Author.Needs.{needs}
 use Rattle.result.proofs.items_fault.Statement.{statement}
 use Rattle.result.proofs.items_fault.Tie as tie
 
 abbrev Inv-loop : tie.InvT-loop
-Inv-loop cell update comf work end count edits v join₀ table₀ room₀ i₀ j₀ join table room i j = (i ≤ count) × Judged (notedCode comf work count v) cell update work end count edits i j × Rooms join table room × (length join ≡ length join₀) × (length table ≡ length table₀) × (length room ≡ length room₀)
+Inv-loop cell update comf work end count edits v join₀ table₀ room₀ i₀ j₀ join table room i j =
+    (i ≤ count) × Judged (notedCode comf work count v) cell update work end count edits i j × Rooms join table room × (length join ≡ length join₀)
+    × (length table ≡ length table₀) × (length room ≡ length room₀)
 
 abbrev μ-loop : tie.MeasureT-loop
 μ-loop cell update comf work end count edits v join₀ table₀ room₀ i₀ j₀ join table room i j = count - i

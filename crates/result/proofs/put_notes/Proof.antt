@@ -2,14 +2,15 @@
 use Prim.Native.Nat.{_-_, _≤_}
 use mathlib.Core.Path.{_≡_}
 use lib.ListN.{length}
-use Rattle.result.specs.Able.{Rooms}
+use Rattle.resultitems.specs.Able.{Rooms}
 use Rattle.result.proofs.NotesLaws.{Walked, walked-start, walked-woof, walked-room, walked-able, walked-on, walked-done}
 use borrow.Author.Needs.{needs}
 use Rattle.result.proofs.put_notes.Statement.{statement}
 use Rattle.result.proofs.put_notes.Tie as tie
 
 abbrev Inv-loop : tie.InvT-loop
-Inv-loop cell update work₀ end count edits join₀ table₀ room₀ i₀ j₀ work join table room i j = (i ≤ count) × Walked cell update work₀ end count edits i j work × Rooms join table room × (length work ≡ length work₀) × (length join ≡ length join₀) × (length table ≡ length table₀) × (length room ≡ length room₀)
+Inv-loop cell update work₀ end count edits join₀ table₀ room₀ i₀ j₀ work join table room i j = (i ≤ count) × Walked cell update work₀ end count edits i j work
+    × Rooms join table room × (length work ≡ length work₀) × (length join ≡ length join₀) × (length table ≡ length table₀) × (length room ≡ length room₀)
 
 abbrev μ-loop : tie.MeasureT-loop
 μ-loop cell update work₀ end count edits join₀ table₀ room₀ i₀ j₀ work join table room i j = count - i

@@ -24,9 +24,13 @@ same-length-4 c = search needs
 
 returns : tie.Need-returns
 returns c =
-    let laid = c .before .before .before .before .before .before .before .before .before .before .before .before .before .before .before .before .before .before .before .before .before .before .before .before .before .before .before .before .before .before .pre .0 in
-    let beside = c .before .before .before .before .before .before .before .before .before .before .before .before .before .before .before .before .before .before .before .prepare .ensures .1 in (
-      result-topology laid beside (c .before .before .before .before .before .before .before .before .before .before .before .before .before .before .before .before .before .before .before .prepare .ensures .0) _ _ (c .before .before .before .before .before .before .items-fault .ensures .0),
+    let laid = c .before .before .before .before .before .before .before .before .before .before .before .before .before .before .before .before .before .before .before .before
+    .before .before .before .before .before .before .before .before .before .before .pre .0 in
+    let beside = c .before .before .before .before .before .before .before .before .before .before .before .before .before .before .before .before .before .before .before
+    .prepare .ensures .1 in (
+      result-topology laid beside
+          (c .before .before .before .before .before .before .before .before .before .before .before .before .before .before .before .before .before .before .before .prepare
+          .ensures .0) _ _ (c .before .before .before .before .before .before .items-fault .ensures .0),
       (result-places laid beside, search needs),
     )
 

@@ -9,17 +9,20 @@ use Rattle.items.specs.Lists.{entriesAt}
 use Rattle.items.specs.Cursors.{left, CursorIn}
 use Rattle.items.proofs.CursorLaws.{begin-in, next-up, next-within, next-bytes, next-less, next-in}
 use Rattle.items.proofs.KindLaws.{fspt-fixed}
-use Rattle.names.specs.Lookup.{indexOf}
-use Rattle.names.specs.Held.{Noted}
-use Rattle.ring.specs.Ring.{ringsFrom, nodeAt, areaClosed, namedAnd, behind}
-use Rattle.ring.proofs.RingLaws.{rings-begin, rings-end, first-missing, ring-begin, ring-misused, ring-closed, ring-open, next-missing, ring-apart, ring-on, fewer, few-still}
+use Rattle.lookups.specs.LookupWords.{indexOf}
+use Rattle.names.specs.Premises.{Noted}
+use Rattle.ring.specs.Walk.{nodeAt, areaClosed, namedAnd, behind}
+use Rattle.ring.specs.Ring.{ringsFrom}
+use Rattle.ring.proofs.RingLaws.{rings-begin, rings-end, first-missing, ring-begin, ring-misused, ring-closed, ring-open, next-missing, ring-apart, ring-on, fewer}
+use Rattle.ring.proofs.RingLaws.{few-still}
 use borrow.Author.Needs.{needs}
 use Rattle.ring.proofs.rings_closed.Statement.{statement}
 use Rattle.ring.proofs.rings_closed.Tie as tie
 
 abbrev Inv-loop : tie.InvT-loop
 Inv-loop s at h work m v exterior₀ c₀ from to start t₀ exterior c t = CursorIn s at FSPT c
-    × (areaClosed (indexOf (wordsIn work 0 m)) (nodeAt (wordsIn work 0 m) (wordsIn work m v)) (entriesAt s at FSPT) ≡ namedAnd (indexOf (wordsIn work 0 m)) (left s at FSPT c) (behind (nodeAt (wordsIn work 0 m) (wordsIn work m v)) exterior start t (left s at FSPT c)))
+    × (areaClosed (indexOf (wordsIn work 0 m)) (nodeAt (wordsIn work 0 m) (wordsIn work m v)) (entriesAt s at FSPT) ≡ namedAnd (indexOf (wordsIn work 0 m)) (left s at FSPT c)
+    (behind (nodeAt (wordsIn work 0 m) (wordsIn work m v)) exterior start t (left s at FSPT c)))
     × (length (left s at FSPT c) ≤ length (left s at FSPT c₀)) × Noted work m v
 
 abbrev μ-loop : tie.MeasureT-loop
@@ -27,7 +30,8 @@ abbrev μ-loop : tie.MeasureT-loop
 
 abbrev Inv-rings : tie.InvT-rings
 Inv-rings s at h work m v exterior₀ c₀ exterior c = CursorIn s at FSPT c
-    × (areaClosed (indexOf (wordsIn work 0 m)) (nodeAt (wordsIn work 0 m) (wordsIn work m v)) (entriesAt s at FSPT) ≡ namedAnd (indexOf (wordsIn work 0 m)) (left s at FSPT c) (ringsFrom (nodeAt (wordsIn work 0 m) (wordsIn work m v)) exterior false 0 0 (left s at FSPT c)))
+    × (areaClosed (indexOf (wordsIn work 0 m)) (nodeAt (wordsIn work 0 m) (wordsIn work m v)) (entriesAt s at FSPT) ≡ namedAnd (indexOf (wordsIn work 0 m)) (left s at FSPT c)
+    (ringsFrom (nodeAt (wordsIn work 0 m) (wordsIn work m v)) exterior false 0 0 (left s at FSPT c)))
 
 abbrev μ-rings : tie.MeasureT-rings
 μ-rings s at h work m v exterior₀ c₀ exterior c = length (left s at FSPT c)
@@ -130,7 +134,8 @@ loop-again c =
     let told = entered .before .before in
     let used = told .before .before .before .before in
     let on =
-    ring-on _ _ _ _ _ _ _ _ _ (used .before .loop .inv .1) _ (used .usage-good .ensures) (told .before .before .before .if1 .left) (told .before .if2 .left) _ (told .next2 .ensures)
+    ring-on _ _ _ _ _ _ _ _ _ (used .before .loop .inv .1) _ (used .usage-good .ensures) (told .before .before .before .if1 .left)
+    (told .before .if2 .left) _ (told .next2 .ensures)
     (entry .0 .0) (entry .0 .1 .0) (entry .0 .1 .1 .0) (entry .1) _ (stepped .step-of2 .ensures) (taken .0 .0) (taken .1) (c .if3 .left) in
     (search (needs, next-in), on, search (needs, few-still), search needs)
 
@@ -150,7 +155,8 @@ returns-5 c =
     let entry = entered .from2 .given in
     let told = entered .before .before in
     let used = told .before .before .before .before in
-    next-missing _ _ _ _ _ _ _ _ _ (used .before .loop .inv .1) _ (used .usage-good .ensures) (told .before .before .before .if1 .left) (told .before .if2 .left) _ (told .next2 .ensures)
+    next-missing _ _ _ _ _ _ _ _ _ (used .before .loop .inv .1) _ (used .usage-good .ensures) (told .before .before .before .if1 .left)
+    (told .before .if2 .left) _ (told .next2 .ensures)
     (entry .0 .0) (entry .0 .1 .0) (entry .0 .1 .1 .0) (entry .1) _ (stepped .step-of2 .ensures) (search needs)
 
 returns-6 : tie.Need-returns-6 Inv-loop μ-loop Inv-rings μ-rings

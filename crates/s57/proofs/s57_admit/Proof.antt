@@ -1,5 +1,6 @@
 -- The answer of `admit`, put into its area. Assumes nothing.
-use Rattle.loader.proofs.AnswerLaws.{told-code, told-area}
+use Rattle.answers.proofs.AnswerLaws.{told-code}
+use Rattle.answers.proofs.SixteenLaws.{told-area}
 use borrow.Author.Needs.{needs}
 use Rattle.s57.proofs.s57_admit.Statement.{statement}
 use Rattle.s57.proofs.s57_admit.Tie as tie

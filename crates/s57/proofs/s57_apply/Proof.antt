@@ -1,5 +1,6 @@
 -- The answer of `apply`, put into its area. Assumes nothing.
-use Rattle.loader.proofs.AnswerLaws.{told-code, told-area}
+use Rattle.answers.proofs.AnswerLaws.{told-code}
+use Rattle.answers.proofs.SixteenLaws.{told-area}
 use borrow.Author.Needs.{needs}
 use Rattle.s57.proofs.s57_apply.Statement.{statement}
 use Rattle.s57.proofs.s57_apply.Tie as tie

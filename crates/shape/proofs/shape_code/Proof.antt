@@ -1,5 +1,5 @@
 -- By whether the shape is good.
-use Rattle.shape.proofs.ShapeLaws.{code-good, code-bad}
+use Rattle.vectorshape.proofs.ShapeLaws.{code-good, code-bad}
 use borrow.Author.Needs.{needs}
 use Rattle.shape.proofs.shape_code.Statement.{statement}
 use Rattle.shape.proofs.shape_code.Tie as tie

@@ -1,6 +1,6 @@
 -- By RCNM: a feature or a vector.
-use Rattle.shape.proofs.ShapeLaws.{reads, feature-told}
-use Rattle.shape.specs.Shape.{shapeGood}
+use Rattle.vectorshape.proofs.ShapeLaws.{reads, feature-told, class-told}
+use Rattle.vectorshape.specs.Shape.{shapeGood}
 use borrow.Author.Needs.{needs}
 use Rattle.shape.proofs.shape_good.Statement.{statement}
 use Rattle.shape.proofs.shape_good.Tie as tie
@@ -9,7 +9,7 @@ rcnm-of-requires : tie.Need-rcnm-of-requires
 rcnm-of-requires c κs = search needs
 
 feature-good-requires : tie.Need-feature-good-requires
-feature-good-requires c κs = search (needs, feature-told)
+feature-good-requires c κs = search (needs, feature-told, class-told)
 
 returns : tie.Need-returns
 unfolding shapeGood

@@ -2,16 +2,14 @@
 use Prim.Native.Nat.{_+_, _-_, _≤_}
 use mathlib.Core.Path.{_≡_}
 use Rattle.words.specs.Words.{wordsIn}
-use Rattle.names.specs.Held.{itemsOf}
-use Rattle.topology.specs.Topology.{faultFrom}
-use Rattle.topology.specs.Notes.{notedCode}
+use Rattle.topology.specs.Notes.{notedCode, wordFault}
 use Rattle.topology.proofs.TopologyLaws.{fault-start, fault-found, fault-on, fault-done, turn-laid, turn-known}
 use borrow.Author.Needs.{needs}
 use Rattle.topology.proofs.items_fault.Statement.{statement}
 use Rattle.topology.proofs.items_fault.Tie as tie
 
 abbrev Inv-loop : tie.InvT-loop
-Inv-loop s comf work m v i₀ i = (i ≤ m) × (faultFrom (notedCode comf work m v) 3 (itemsOf s (wordsIn work 0 m)) ≡ faultFrom (notedCode comf work m v) (3 + i) (itemsOf s (wordsIn work i (m - i))))
+Inv-loop s comf work m v i₀ i = (i ≤ m) × (wordFault (notedCode comf work m v) s 3 (wordsIn work 0 m) ≡ wordFault (notedCode comf work m v) s (3 + i) (wordsIn work i (m - i)))
 
 abbrev μ-loop : tie.MeasureT-loop
 μ-loop s comf work m v i₀ i = m - i

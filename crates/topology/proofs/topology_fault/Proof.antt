@@ -23,7 +23,12 @@ same-length : tie.Need-same-length
 same-length c = search needs
 
 returns : tie.Need-returns
-returns c = (held-fault (c .before .before .before .before .before .before .before .before .before .pre .0) (c .before .before .before .before .before .before .before .before .before .pre .2) refl (search needs) (λ i. omega (arith, c .before .before .before .before .before .before .before .before .shared-slice-known .given i)) _ _ (search needs) (c .items-fault .ensures), search (needs, held-stays))
+returns c = (
+  held-fault (c .before .before .before .before .before .before .before .before .before .pre .0)
+      (c .before .before .before .before .before .before .before .before .before .pre .2) refl (search needs)
+      (λ i. omega (arith, c .before .before .before .before .before .before .before .before .shared-slice-known .given i)) _ _ (search needs) (c .items-fault .ensures),
+  search (needs, held-stays),
+)
 
 pub topology-fault-spec : {M : Type 1} → statement M
 topology-fault-spec =

@@ -1,5 +1,5 @@
 use Rattle.octets.proofs.Tests.{tests}
-use Rattle.chart.specs.Value.{isAttributes}
+use Rattle.fieldvalue.specs.Value.{isAttributes}
 use Rattle.amend.proofs.lists.is_attributes.Statement.{statement}
 use Rattle.amend.proofs.lists.is_attributes.Tie as tie
 

@@ -3,7 +3,7 @@ use Prim.Native.Nat.{_-_}
 use mathlib.Core.Path.{_≡_}
 use lib.ListN.{length}
 use Rattle.words.specs.Words.{wordsIn}
-use Rattle.writing.specs.All.{objectsAt}
+use Rattle.names.specs.NameWords.{itemsAt}
 use Rattle.amend.specs.Sides.{Areas}
 use Rattle.amendments.proofs.FaultLaws.{Judging, judging-start, judging-here, judging-framed, judging-stop, judging-on, judging-end}
 use borrow.Author.Needs.{needs}
@@ -12,7 +12,7 @@ use Rattle.amendments.proofs.fault.amendments_fault.Tie as tie
 
 abbrev Inv-loop : tie.InvT-loop
 Inv-loop cell update m work from n join₀ table₀ room₀ at₀ k₀ join table room at k =
-    Judging (objectsAt cell (wordsIn work from n)) update m k at × Areas join table × (length join ≡ length join₀) × (length table ≡ length table₀)
+    Judging (itemsAt cell (wordsIn work from n)) update m k at × Areas join table × (length join ≡ length join₀) × (length table ≡ length table₀)
     × (length room ≡ length room₀)
 
 abbrev μ-loop : tie.MeasureT-loop

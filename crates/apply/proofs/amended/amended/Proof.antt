@@ -1,6 +1,6 @@
 -- A record with a code answers; where none has, the two files may be merged. Assumes nothing.
-use Rattle.apply.proofs.MergeLaws.{rooms-few, amending-three, amending-two, amending-room, amending-all, amended-refused, amended-on, amended-merging}
-use Rattle.apply.proofs.ResultLaws.{area-kept, filed-kept}
+use Rattle.resultstages.proofs.MergeLaws.{rooms-few, amending-three, amending-two, amending-room, amending-all, amended-refused, amended-on, amended-merging}
+use Rattle.loader.proofs.AdmitLaws.{filed-area}
 use mathlib.Core.Path.{refl}
 use borrow.Author.Needs.{needs}
 use Rattle.apply.proofs.amended.amended.Statement.{statement}
@@ -16,7 +16,12 @@ add-half : tie.Need-add-half
 add-half c = search needs
 
 amendments-fault-requires : tie.Need-amendments-fault-requires
-amendments-fault-requires c κs = (amending-all (c .before .before .before .before .before .before .before .before .before .before .before .pre .0) _ _ refl refl, amending-room (c .before .before .before .before .before .before .before .before .before .before .before .pre .0) _ _ refl refl, search needs, search (needs, rooms-few))
+amendments-fault-requires c κs = (
+  amending-all (c .before .before .before .before .before .before .before .before .before .before .before .pre .0) _ _ refl refl,
+  amending-room (c .before .before .before .before .before .before .before .before .before .before .before .pre .0) _ _ refl refl,
+  search needs,
+  search (needs, rooms-few),
+)
 
 filed-requires : tie.Need-filed-requires
 filed-requires c κs = search needs
@@ -34,10 +39,22 @@ same-length-4 : tie.Need-same-length-4
 same-length-4 c = search needs
 
 returns : tie.Need-returns
-returns c = (amended-refused (c .before .before .before .before .before .before .before .before .before .before .before .before .before .before .before .before .before .before .before .before .pre .0) _ _ refl refl _ (c .before .before .before .before .before .before .before .before .amendments-fault .ensures .0) _ _ (c .before .if1 .taken) (c .filed .ensures), area-kept _ _ _ (filed-kept _ _ _ (c .before .if1 .taken) (c .filed .ensures)))
+returns c = (
+  amended-refused
+      (c .before .before .before .before .before .before .before .before .before .before .before .before .before .before .before .before .before .before .before .before .pre .0)
+      _ _ refl refl _ (c .before .before .before .before .before .before .before .before .amendments-fault .ensures .0) _ _ (c .before .if1 .taken) (c .filed .ensures),
+  filed-area _ _ _ _ _ (c .before .if1 .taken) (c .filed .ensures),
+)
 
 merged-requires : tie.Need-merged-requires
-merged-requires c κs = (amended-merging (c .before .before .before .before .before .before .before .before .before .before .before .before .before .before .before .before .before .before .before .before .before .before .before .before .pre .0) _ _ refl refl _ (c .before .before .before .before .before .before .before .before .before .before .before .before .amendments-fault .ensures .0) (c .before .before .before .before .before .if1 .left), search needs)
+merged-requires c κs = (
+  amended-merging
+      (c .before .before .before .before .before .before .before .before .before .before .before .before .before .before .before .before .before .before .before .before .before
+      .before .before .before .pre .0) _ _ refl refl
+      _ (c .before .before .before .before .before .before .before .before .before .before .before .before .amendments-fault .ensures .0)
+      (c .before .before .before .before .before .if1 .left),
+  search needs,
+)
 
 same-length-5 : tie.Need-same-length-5
 same-length-5 c = search needs
@@ -55,7 +72,16 @@ same-length-9 : tie.Need-same-length-9
 same-length-9 c = search needs
 
 returns-2 : tie.Need-returns-2
-returns-2 c = (amended-on (c .before .before .before .before .before .before .before .before .before .before .before .before .before .before .before .before .before .before .before .before .before .before .before .before .before .before .before .before .before .before .before .before .before .before .before .pre .0) _ _ refl refl _ (c .before .before .before .before .before .before .before .before .before .before .before .before .before .before .before .before .before .before .before .before .before .before .before .amendments-fault .ensures .0) _ _ (c .before .before .before .before .before .before .before .before .before .before .before .before .before .before .before .before .if1 .left) (c .before .before .before .before .before .before .before .before .before .before .merged .ensures .0), c .before .before .before .before .before .before .before .before .before .before .merged .ensures .1)
+returns-2 c = (
+  amended-on
+      (c .before .before .before .before .before .before .before .before .before .before .before .before .before .before .before .before .before .before .before .before .before
+      .before .before .before .before .before .before .before .before .before .before .before .before .before .before .pre .0) _ _ refl refl
+      _ (c .before .before .before .before .before .before .before .before .before .before .before .before .before .before .before .before .before .before .before .before .before
+      .before .before .amendments-fault .ensures .0)
+      _ _ (c .before .before .before .before .before .before .before .before .before .before .before .before .before .before .before .before .if1 .left)
+      (c .before .before .before .before .before .before .before .before .before .before .merged .ensures .0),
+  c .before .before .before .before .before .before .before .before .before .before .merged .ensures .1,
+)
 
 pub amended-spec : {M : Type 1} → statement M
 amended-spec =

@@ -1,5 +1,5 @@
 -- The three areas are as long as they have to be, and the table is zero. Assumes nothing.
-use Rattle.apply.proofs.MergeLaws.{rooms-made}
+use Rattle.resultstages.proofs.MergeLaws.{rooms-made}
 use borrow.Author.Needs.{needs}
 use Rattle.apply.proofs.amended.amended_apart.Statement.{statement}
 use Rattle.apply.proofs.amended.amended_apart.Tie as tie
@@ -23,7 +23,11 @@ slice-aggregate-amended-3 : tie.Need-slice-aggregate-amended-3
 slice-aggregate-amended-3 c = search needs
 
 amended-requires : tie.Need-amended-requires
-amended-requires c κs = (search needs, rooms-made (c .before .before .before .before .before .before .before .wide-join .ensures) (c .before .before .before .before .before .before .blank-table .ensures) (c .before .before .before .before .before .wide-room .ensures))
+amended-requires c κs = (
+  search needs,
+  rooms-made (c .before .before .before .before .before .before .before .wide-join .ensures)
+      (c .before .before .before .before .before .before .blank-table .ensures) (c .before .before .before .before .before .wide-room .ensures),
+)
 
 same-length : tie.Need-same-length
 same-length c = search needs

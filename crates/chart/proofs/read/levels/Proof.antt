@@ -16,16 +16,19 @@ add-wide : tie.Need-add-wide
 add-wide c = let r = levels-room _ (c .before .before .before .pre .0) (c .before .before .before .pre .1) (c .field-at .ensures) in omega arith
 
 shared-slice-read-wide : tie.Need-shared-slice-read-wide
-shared-slice-read-wide c = let r = levels-room _ (c .before .before .before .before .pre .0) (c .before .before .before .before .pre .1) (c .before .field-at .ensures) in omega arith
+shared-slice-read-wide c = let r = levels-room _ (c .before .before .before .before .pre .0) (c .before .before .before .before .pre .1) (c .before .field-at .ensures) in
+    omega arith
 
 wide-requires : tie.Need-wide-requires
 wide-requires c κs = search needs
 
 add-wide-2 : tie.Need-add-wide-2
-add-wide-2 c = let r = levels-room _ (c .before .before .before .before .before .pre .0) (c .before .before .before .before .before .pre .1) (c .before .before .field-at .ensures) in omega arith
+add-wide-2 c = let r = levels-room _ (c .before .before .before .before .before .pre .0) (c .before .before .before .before .before .pre .1)
+    (c .before .before .field-at .ensures) in omega arith
 
 shared-slice-read-wide-2 : tie.Need-shared-slice-read-wide-2
-shared-slice-read-wide-2 c = let r = levels-room _ (c .before .before .before .before .before .before .pre .0) (c .before .before .before .before .before .before .pre .1) (c .before .before .before .field-at .ensures) in omega arith
+shared-slice-read-wide-2 c = let r = levels-room _ (c .before .before .before .before .before .before .pre .0) (c .before .before .before .before .before .before .pre .1)
+    (c .before .before .before .field-at .ensures) in omega arith
 
 wide-requires-2 : tie.Need-wide-requires-2
 wide-requires-2 c κs = search needs

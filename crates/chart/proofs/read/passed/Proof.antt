@@ -14,7 +14,8 @@ levels-requires : tie.Need-levels-requires
 levels-requires c κs = search needs
 
 returns : tie.Need-returns
-returns c = passed-first _ _ _ _ _ _ (c .before .before .next-stage .ensures) (c .before .before .before .is-feature .ensures) _ _ (c .before .if1 .taken) (c .levels .ensures .0) (c .levels .ensures .1)
+returns c = passed-first _ _ _ _ _ _ (c .before .before .next-stage .ensures) (c .before .before .before .is-feature .ensures) _ _ (c .before .if1 .taken) (c .levels .ensures .0)
+    (c .levels .ensures .1)
 
 returns-2 : tie.Need-returns-2
 returns-2 c = passed-later _ _ _ _ _ _ (c .before .next-stage .ensures) (c .before .before .is-feature .ensures) (c .if1 .left)

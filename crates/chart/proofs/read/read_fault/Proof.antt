@@ -24,10 +24,21 @@ slice-aggregate-records-fault-2 : tie.Need-slice-aggregate-records-fault-2
 slice-aggregate-records-fault-2 c = search needs
 
 records-fault-requires : tie.Need-records-fault-requires
-records-fault-requires c κs = record { framed = (c .before .before .before .before .before .before .before .before .pre .0); short = (c .before .before .before .before .before .before .before .before .pre .1); twenty = (c .before .before .before .before .before .before .described .ensures .1); wide = blank-upto _ (c .before .before .blank .ensures) .0; blank = blank-upto _ (c .before .before .blank .ensures) .1 }
+records-fault-requires c κs = record {
+  framed = (c .before .before .before .before .before .before .before .before .pre .0);
+  short =
+      (c .before .before .before .before .before .before .before .before .pre .1);
+  twenty = (c .before .before .before .before .before .before .described .ensures .1);
+  wide =
+      blank-upto _ (c .before .before .blank .ensures) .0;
+  blank = blank-upto _ (c .before .before .blank .ensures) .1;
+}
 
 returns-2 : tie.Need-returns-2
-returns-2 c = read-records _ _ _ (c .before .before .before .before .before .before .before .before .described .result) _ (c .before .before .before .before .before .before .before .before .described .ensures .0) (c .before .before .before .before .before .before .before .before .described .ensures .1) (c .before .before .before .before .before .before .if1 .left) (c .before .records-fault .ensures)
+returns-2 c = read-records _ _ _ (c .before .before .before .before .before .before .before .before .described .result)
+    _ (c .before .before .before .before .before .before .before .before .described .ensures .0)
+    (c .before .before .before .before .before .before .before .before .described .ensures .1) (c .before .before .before .before .before .before .if1 .left)
+    (c .before .records-fault .ensures)
 
 pub read-fault-spec : {M : Type 1} → statement M
 read-fault-spec =

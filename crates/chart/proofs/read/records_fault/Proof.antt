@@ -1,7 +1,6 @@
-use mathlib.Core.Path.{_∙_}
+use mathlib.Core.Path.{_∙_, _≡_}
 -- The invariant: the answer from the start is the answer from record k on.
 use Prim.Native.Nat.{_≤_, _-_}
-use mathlib.Core.Path.{_≡_}
 use native.Mathlib.Omega.{arith}
 use lib.ListN.{length}
 use Rattle.iso8211.specs.File.{recordAt}
@@ -21,10 +20,20 @@ record-end-requires : tie.Need-record-end-requires Inv-loop μ-loop
 record-end-requires c κs = framed-at _ _ 0 0 (c .before .before .before .pre .framed) (last-ends _ _ (c .before .before .before .pre .framed) .0) (at-start _)
 
 loop-holds : tie.Need-loop-holds Inv-loop μ-loop
-loop-holds c = (omega arith, last-ends _ _ (c .before .before .before .before .pre .framed) .0, at-on _ 0 0 _ (at-start _) (c .record-end .ensures .0), (c .before .before .before .before .pre .wide), reading-start _ _ _ _ _ _ (c .record-end .ensures .0) (c .record-end .ensures .1 .0) (c .before .before .before .before .pre .blank))
+loop-holds c = (
+  omega arith,
+  last-ends _ _ (c .before .before .before .before .pre .framed) .0,
+  at-on _ 0 0 _ (at-start _) (c .record-end .ensures .0),
+  (c .before .before .before .before .pre .wide),
+  reading-start _ _ _ _ _ _ (c .record-end .ensures .0) (c .record-end .ensures .1 .0)
+      (c .before .before .before .before .pre .blank),
+)
 
 layout-fault-requires : tie.Need-layout-fault-requires Inv-loop μ-loop
-layout-fault-requires c κs = ((record-in _ _ (c .before .loop .k) _ (c .before .before .before .before .before .before .pre .framed) (c .loop-test .taken) (c .before .loop .inv .2)), (c .before .before .before .before .before .before .pre .twenty))
+layout-fault-requires c κs = (
+  (record-in _ _ (c .before .loop .k) _ (c .before .before .before .before .before .before .pre .framed) (c .loop-test .taken) (c .before .loop .inv .2)),
+  (c .before .before .before .before .before .before .pre .twenty),
+)
 
 refuse-requires : tie.Need-refuse-requires Inv-loop μ-loop
 refuse-requires c κs = search needs
@@ -33,10 +42,15 @@ same-length : tie.Need-same-length Inv-loop μ-loop
 same-length c = search needs
 
 returns : tie.Need-returns Inv-loop μ-loop
-returns c = reading-layout (c .before .before .before .before .loop .inv .4) (c .before .before .before .loop-test .taken) _ _ (c .before .before .layout-fault .ensures .0) (c .before .if1 .taken) (c .refuse .ensures)
+returns c = reading-layout (c .before .before .before .before .loop .inv .4) (c .before .before .before .loop-test .taken) _ _ (c .before .before .layout-fault .ensures .0)
+    (c .before .if1 .taken) (c .refuse .ensures)
 
 value-fault-requires : tie.Need-value-fault-requires Inv-loop μ-loop
-value-fault-requires c κs = (full-of _ _ _ _ _ _ (record-in _ _ (c .before .before .before .before .loop .k) _ (c .before .before .before .before .before .before .before .before .before .pre .framed) (c .before .before .before .loop-test .taken) (c .before .before .before .before .loop .inv .2)) (c .before .before .layout-fault .ensures .0) (c .before .if1 .left), ((c .before .before .before .before .before .before .before .before .before .pre .short), (c .before .before .before .before .loop .inv .3)))
+value-fault-requires c κs = (
+  full-of _ _ _ _ _ _ (record-in _ _ (c .before .before .before .before .loop .k) _ (c .before .before .before .before .before .before .before .before .before .pre .framed)
+      (c .before .before .before .loop-test .taken) (c .before .before .before .before .loop .inv .2)) (c .before .before .layout-fault .ensures .0) (c .before .if1 .left),
+  ((c .before .before .before .before .before .before .before .before .before .pre .short), (c .before .before .before .before .loop .inv .3)),
+)
 
 refuse-requires-2 : tie.Need-refuse-requires-2 Inv-loop μ-loop
 refuse-requires-2 c κs = search needs
@@ -45,13 +59,22 @@ same-length-2 : tie.Need-same-length-2 Inv-loop μ-loop
 same-length-2 c = search needs
 
 returns-2 : tie.Need-returns-2 Inv-loop μ-loop
-returns-2 c = reading-value (c .before .before .before .before .before .before .before .before .before .loop .inv .4) (c .before .before .before .before .before .before .before .before .loop-test .taken) _ (c .before .before .before .before .before .before .before .layout-fault .ensures .0) (c .before .before .before .before .before .before .if1 .left) (c .before .before .before .before .value-fault .ensures) _ (c .before .if2 .taken) (c .refuse2 .ensures)
+returns-2 c = reading-value (c .before .before .before .before .before .before .before .before .before .loop .inv .4)
+    (c .before .before .before .before .before .before .before .before .loop-test .taken) _ (c .before .before .before .before .before .before .before .layout-fault .ensures .0)
+    (c .before .before .before .before .before .before .if1 .left) (c .before .before .before .before .value-fault .ensures) _ (c .before .if2 .taken) (c .refuse2 .ensures)
 
 passed-requires : tie.Need-passed-requires Inv-loop μ-loop
-passed-requires c κs = passing-of _ _ _ _ _ _ (record-in _ _ (c .before .before .before .before .before .before .before .before .loop .k) _ (c .before .before .before .before .before .before .before .before .before .before .before .before .before .pre .framed) (c .before .before .before .before .before .before .before .loop-test .taken) (c .before .before .before .before .before .before .before .before .loop .inv .2)) (c .before .before .before .before .before .before .layout-fault .ensures .0) (c .before .before .before .before .before .if1 .left)
+passed-requires c κs = passing-of _ _ _ _ _ _ (record-in _ _ (c .before .before .before .before .before .before .before .before .loop .k)
+    _ (c .before .before .before .before .before .before .before .before .before .before .before .before .before .pre .framed)
+    (c .before .before .before .before .before .before .before .loop-test .taken) (c .before .before .before .before .before .before .before .before .loop .inv .2))
+    (c .before .before .before .before .before .before .layout-fault .ensures .0) (c .before .before .before .before .before .if1 .left)
 
 record-end-requires-2 : tie.Need-record-end-requires-2 Inv-loop μ-loop
-record-end-requires-2 c κs = (record-in _ _ (c .before .before .before .before .before .before .before .before .before .loop .k) _ (c .before .before .before .before .before .before .before .before .before .before .before .before .before .before .pre .framed) (c .before .before .before .before .before .before .before .before .loop-test .taken) (c .before .before .before .before .before .before .before .before .before .loop .inv .2)) .framed
+record-end-requires-2 c κs =
+    (record-in _ _ (c .before .before .before .before .before .before .before .before .before .loop .k)
+    _ (c .before .before .before .before .before .before .before .before .before .before .before .before .before .before .pre .framed)
+    (c .before .before .before .before .before .before .before .before .loop-test .taken)
+    (c .before .before .before .before .before .before .before .before .before .loop .inv .2)) .framed
 
 add-k : tie.Need-add-k Inv-loop μ-loop
 add-k c = search needs
@@ -60,7 +83,18 @@ loop-less : tie.Need-loop-less Inv-loop μ-loop
 loop-less c = search needs
 
 loop-again : tie.Need-loop-again Inv-loop μ-loop
-loop-again c = (omega arith, omega arith, at-on _ _ _ _ (c .before .before .before .before .before .before .before .before .before .before .loop .inv .2) (c .record-end2 .ensures .0), (c .before .before .before .before .before .value-fault .kept .1 .1 .1 .1 .1 .0) ∙ (c .before .before .before .before .before .before .before .before .before .before .loop .inv .3), reading-on (c .before .before .before .before .before .before .before .before .before .before .loop .inv .4) (c .before .before .before .before .before .before .before .before .before .loop-test .taken) _ (c .before .before .before .before .before .before .before .before .layout-fault .ensures .0) (c .before .before .before .before .before .before .before .if1 .left) (c .before .before .before .before .before .value-fault .ensures) (c .before .before .if2 .left) _ _ (c .before .passed .ensures) (c .record-end2 .ensures .0))
+loop-again c = (
+  omega arith,
+  omega arith,
+  at-on _ _ _ _ (c .before .before .before .before .before .before .before .before .before .before .loop .inv .2)
+      (c .record-end2 .ensures .0),
+  (c .before .before .before .before .before .value-fault .kept .1 .1 .1 .1 .1 .0)
+      ∙ (c .before .before .before .before .before .before .before .before .before .before .loop .inv .3),
+  reading-on (c .before .before .before .before .before .before .before .before .before .before .loop .inv .4)
+      (c .before .before .before .before .before .before .before .before .before .loop-test .taken)
+      _ (c .before .before .before .before .before .before .before .before .layout-fault .ensures .0) (c .before .before .before .before .before .before .before .if1 .left)
+      (c .before .before .before .before .before .value-fault .ensures) (c .before .before .if2 .left) _ _ (c .before .passed .ensures) (c .record-end2 .ensures .0),
+)
 
 refuse-requires-3 : tie.Need-refuse-requires-3 Inv-loop μ-loop
 refuse-requires-3 c κs = search needs

@@ -1,10 +1,9 @@
-use lib.ListN.{length-set}
+use lib.ListN.{length-set, length, take}
 use native.Mathlib.Nat.{zero-mul, add-zero}
 -- The invariant: the rows so far are the definition's.
 use Prim.Native.Nat.{_≤_, _-_, _+_, _*_}
 use mathlib.Core.Path.{_≡_, refl}
 use native.Mathlib.Omega.{arith}
-use lib.ListN.{length, take}
 use Rattle.iso8211.specs.Directory.{rows, rowWidth}
 use Rattle.iso8211.proofs.DirectoryLaws.{batch-more, batch-all, rows-none, row-room, row-next}
 use borrow.Author.Needs.{needs}
@@ -21,7 +20,10 @@ loop-holds : tie.Need-loop-holds Inv-loop μ-loop
 loop-holds c = (omega arith, refl, rw (zero-mul, add-zero), rows-none _ _ _ _)
 
 row-at-requires : tie.Need-row-at-requires Inv-loop μ-loop
-row-at-requires c κs = (c .before .before .before .pre .0, (c .before .before .before .pre .1 .0, rw (c .before .loop .inv .2) (row-room _ _ _ _ _ (c .loop-test .taken) (c .before .before .before .pre .1 .1 .1))))
+row-at-requires c κs = (
+  c .before .before .before .pre .0,
+  (c .before .before .before .pre .1 .0, rw (c .before .loop .inv .2) (row-room _ _ _ _ _ (c .loop-test .taken) (c .before .before .before .pre .1 .1 .1))),
+)
 
 mul-out : tie.Need-mul-out Inv-loop μ-loop
 mul-out c = search needs
@@ -45,7 +47,13 @@ loop-less : tie.Need-loop-less Inv-loop μ-loop
 loop-less c = search needs
 
 loop-again : tie.Need-loop-again Inv-loop μ-loop
-loop-again c = (omega arith, simp length-set (omega arith), row-next _ _ _ _ (c .before .before .loop .inv .2), batch-more _ _ _ _ _ _ _ _ (omega arith) (c .before .before .loop .inv .2) (c .before .before .loop .inv .3) (c .row-at .ensures .0))
+loop-again c = (
+  omega arith,
+  simp length-set (omega arith),
+  row-next _ _ _ _ (c .before .before .loop .inv .2),
+  batch-more _ _ _ _ _ _ _ _ (omega arith)
+      (c .before .before .loop .inv .2) (c .before .before .loop .inv .3) (c .row-at .ensures .0),
+)
 
 returns : tie.Need-returns Inv-loop μ-loop
 returns c = batch-all _ _ _ _ _ _ _ (omega arith) (omega arith) (c .before .loop .inv .3)

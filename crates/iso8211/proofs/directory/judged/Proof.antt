@@ -39,7 +39,8 @@ enum-told : tie.Need-enum-told Inv-loop μ-loop
 enum-told c = search needs
 
 returns : tie.Need-returns Inv-loop μ-loop
-returns c = rowing-bad _ (c .before .before .before .before .before .loop .inv .2) (c .before .before .before .before .loop-test .taken) (omega arith) refl refl (c .before .before .field-step .ensures) (search needs)
+returns c = rowing-bad _ (c .before .before .before .before .before .loop .inv .2) (c .before .before .before .before .loop-test .taken) (omega arith) refl refl
+    (c .before .before .field-step .ensures) (search needs)
 
 add-k : tie.Need-add-k Inv-loop μ-loop
 add-k c = search needs
@@ -48,7 +49,12 @@ loop-less : tie.Need-loop-less Inv-loop μ-loop
 loop-less c = search needs
 
 loop-again : tie.Need-loop-again Inv-loop μ-loop
-loop-again c = (omega arith, step-most (c .before .before .before .field-step .ensures) (search needs), rowing-on _ (c .before .before .before .before .before .before .loop .inv .2) (c .before .before .before .before .before .loop-test .taken) (omega arith) refl refl (c .before .before .before .field-step .ensures) (search needs))
+loop-again c = (
+  omega arith,
+  step-most (c .before .before .before .field-step .ensures) (search needs),
+  rowing-on _ (c .before .before .before .before .before .before .loop .inv .2) (c .before .before .before .before .before .loop-test .taken) (omega arith) refl refl
+      (c .before .before .before .field-step .ensures) (search needs),
+)
 
 returns-2 : tie.Need-returns-2 Inv-loop μ-loop
 returns-2 c = rowing-end _ (c .before .before .before .args .n) _ (omega arith) (c .before .loop .inv .1) (c .before .loop .inv .2)

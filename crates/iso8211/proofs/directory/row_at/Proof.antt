@@ -23,7 +23,10 @@ get-digits-requires-2 : tie.Need-get-digits-requires-2
 get-digits-requires-2 c κs = search needs
 
 returns : tie.Need-returns
-returns c = (row-is _ _ _ _ _ _ _ (c .before .before .tag-at .ensures) (c .before .get-digits .ensures) (c .get-digits2 .ensures), (c .before .get-digits .ensures .most, c .get-digits2 .ensures .most))
+returns c = (
+  row-is _ _ _ _ _ _ _ (c .before .before .tag-at .ensures) (c .before .get-digits .ensures) (c .get-digits2 .ensures),
+  (c .before .get-digits .ensures .most, c .get-digits2 .ensures .most),
+)
 
 pub row-at-spec : {M : Type 1} → statement M
 row-at-spec =

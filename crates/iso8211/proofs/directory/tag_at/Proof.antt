@@ -56,7 +56,8 @@ add-result-3 : tie.Need-add-result-3
 add-result-3 c = search needs
 
 returns : tie.Need-returns
-returns c = tag-is _ _ _ _ _ _ (c .before .before .before .before .before .before .wide .ensures .0) (c .before .before .before .before .wide2 .ensures .0) (c .before .before .wide3 .ensures .0) (c .wide4 .ensures .0)
+returns c = tag-is _ _ _ _ _ _ (c .before .before .before .before .before .before .wide .ensures .0) (c .before .before .before .before .wide2 .ensures .0)
+    (c .before .before .wide3 .ensures .0) (c .wide4 .ensures .0)
 
 pub tag-at-spec : {M : Type 1} → statement M
 tag-at-spec =

@@ -33,7 +33,13 @@ cast-t23 : tie.Need-cast-t23
 cast-t23 c = search needs
 
 returns : tie.Need-returns
-returns c = field-is _ _ _ _ _ _ _ _ (c .row-at .ensures .0) (c .before .row-place .ensures .0) (c .before .before .before .pre .0 .base) (record { headed = c .before .before .before .pre .0 .headed; lengths = c .before .before .before .pre .0 .lengths; positions = c .before .before .before .pre .0 .positions; below = c .before .before .before .pre .1 })
+returns c = field-is _ _ _ _ _ _ _ _ (c .row-at .ensures .0) (c .before .row-place .ensures .0) (c .before .before .before .pre .0 .base)
+    (record {
+      headed = c .before .before .before .pre .0 .headed;
+      lengths = c .before .before .before .pre .0 .lengths;
+      positions = c .before .before .before .pre .0 .positions;
+      below = c .before .before .before .pre .1;
+    })
 
 pub field-at-spec : {M : Type 1} → statement M
 field-at-spec =

@@ -20,7 +20,13 @@ cast-length : tie.Need-cast-length
 cast-length c = search needs
 
 returns : tie.Need-returns
-returns c = field-on-is _ _ _ _ _ _ _ _ _ (record { headed = c .before .before .before .before .pre .0 .headed; lengths = c .before .before .before .before .pre .0 .lengths; positions = c .before .before .before .before .pre .0 .positions; below = c .before .before .before .before .pre .1 .0 }) (c .before .before .row-place .ensures .0) (c .before .tag-at .ensures) (c .get-digits .ensures) (c .before .before .before .before .pre .1 .1)
+returns c = field-on-is _ _ _ _ _ _ _ _ _ (record {
+  headed = c .before .before .before .before .pre .0 .headed;
+  lengths = c .before .before .before .before .pre .0 .lengths;
+  positions = c .before .before .before .before .pre .0 .positions;
+  below = c .before .before .before .before .pre .1 .0;
+}) (c .before .before .row-place .ensures .0)
+    (c .before .tag-at .ensures) (c .get-digits .ensures) (c .before .before .before .before .pre .1 .1)
 
 pub field-on-spec : {M : Type 1} → statement M
 field-on-spec =

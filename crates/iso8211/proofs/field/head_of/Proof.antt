@@ -38,7 +38,14 @@ div-count : tie.Need-div-count
 div-count c = search needs
 
 returns : tie.Need-returns
-returns c = record { headed = c .before .before .before .before .pre; base = c .before .before .get-digits .ensures .is; lengths = c .before .digit-at .ensures .0; positions = c .digit-at2 .ensures .0; count = count-is _ _ _ _ _ (c .before .before .get-digits .ensures .is) (c .before .digit-at .ensures .0) (c .digit-at2 .ensures .0) }
+returns c = record {
+  headed = c .before .before .before .before .pre;
+  base = c .before .before .get-digits .ensures .is;
+  lengths = c .before .digit-at .ensures .0;
+  positions =
+      c .digit-at2 .ensures .0;
+  count = count-is _ _ _ _ _ (c .before .before .get-digits .ensures .is) (c .before .digit-at .ensures .0) (c .digit-at2 .ensures .0);
+}
 
 pub head-of-spec : {M : Type 1} → statement M
 head-of-spec =

@@ -36,7 +36,11 @@ loop-less : tie.Need-loop-less Inv-loop μ-loop
 loop-less c = omega (arith, frame-past _ _ _ _ (c .before .before .before .loop .inv .2) (c .before .before .good-end .ensures .0) (c .before .if1 .left))
 
 loop-again : tie.Need-loop-again Inv-loop μ-loop
-loop-again c = (omega (arith, frame-past _ _ _ _ (c .before .before .before .loop .inv .2) (c .before .before .good-end .ensures .0) (c .before .if1 .left)), omega arith, frame-on _ _ _ _ (c .before .before .before .loop .inv .2) (c .before .before .good-end .ensures .0) (c .before .if1 .left) (c .if2 .left) (omega arith) (omega arith))
+loop-again c = (
+  omega (arith, frame-past _ _ _ _ (c .before .before .before .loop .inv .2) (c .before .before .good-end .ensures .0) (c .before .if1 .left)),
+  omega arith,
+  frame-on _ _ _ _ (c .before .before .before .loop .inv .2) (c .before .before .good-end .ensures .0) (c .before .if1 .left) (c .if2 .left) (omega arith) (omega arith),
+)
 
 pub frame-spec : {M : Type 1} → statement M
 frame-spec =

@@ -28,7 +28,11 @@ size-good-requires c κs = search needs
 
 returns-3 : tie.Need-returns-3
 unfolding leaderGood
-returns-3 c = rw (le-leb _ _ (c .before .before .before .before .if1 .left), told-yes _ _ (c .before .before .before .kind-good .ensures) (c .before .before .if2 .left), told-no _ _ (c .before .size-good .ensures) (c .if3 .taken))
+returns-3 c = rw (
+  le-leb _ _ (c .before .before .before .before .if1 .left),
+  told-yes _ _ (c .before .before .before .kind-good .ensures) (c .before .before .if2 .left),
+  told-no _ _ (c .before .size-good .ensures) (c .if3 .taken),
+)
 
 add-size-good-2 : tie.Need-add-size-good-2
 add-size-good-2 c = search needs
@@ -38,7 +42,13 @@ size-good-requires-2 c κs = search needs
 
 returns-4 : tie.Need-returns-4
 unfolding leaderGood
-returns-4 c = rw (le-leb _ _ (c .before .before .before .before .before .before .if1 .left), told-yes _ _ (c .before .before .before .before .before .kind-good .ensures) (c .before .before .before .before .if2 .left), told-yes _ _ (c .before .before .before .size-good .ensures) (c .before .before .if3 .left), told-no _ _ (c .before .size-good2 .ensures) (c .if4 .taken))
+returns-4 c = rw (
+  le-leb _ _ (c .before .before .before .before .before .before .if1 .left),
+  told-yes _ _ (c .before .before .before .before .before .kind-good .ensures)
+      (c .before .before .before .before .if2 .left),
+  told-yes _ _ (c .before .before .before .size-good .ensures) (c .before .before .if3 .left),
+  told-no _ _ (c .before .size-good2 .ensures) (c .if4 .taken),
+)
 
 add-if5 : tie.Need-add-if5
 add-if5 c = search needs
@@ -48,7 +58,12 @@ shared-slice-read-if5 c = search needs
 
 returns-5 : tie.Need-returns-5
 unfolding leaderGood
-returns-5 c = rw (le-leb _ _ (c .before .before .before .before .before .before .before .before .if1 .left), told-yes _ _ (c .before .before .before .before .before .before .before .kind-good .ensures) (c .before .before .before .before .before .before .if2 .left), told-yes _ _ (c .before .before .before .before .before .size-good .ensures) (c .before .before .before .before .if3 .left), told-yes _ _ (c .before .before .before .size-good2 .ensures) (c .before .before .if4 .left)) (search tests)
+returns-5 c = rw (
+  le-leb _ _ (c .before .before .before .before .before .before .before .before .if1 .left),
+  told-yes _ _ (c .before .before .before .before .before .before .before .kind-good .ensures) (c .before .before .before .before .before .before .if2 .left),
+  told-yes _ _ (c .before .before .before .before .before .size-good .ensures) (c .before .before .before .before .if3 .left),
+  told-yes _ _ (c .before .before .before .size-good2 .ensures) (c .before .before .if4 .left),
+) (search tests)
 
 add-result : tie.Need-add-result
 add-result c = search needs
@@ -58,7 +73,13 @@ shared-slice-read-result c = search needs
 
 returns-6 : tie.Need-returns-6
 unfolding leaderGood
-returns-6 c = rw (le-leb _ _ (c .before .before .before .before .before .before .before .before .before .if1 .left), told-yes _ _ (c .before .before .before .before .before .before .before .before .kind-good .ensures) (c .before .before .before .before .before .before .before .if2 .left), told-yes _ _ (c .before .before .before .before .before .before .size-good .ensures) (c .before .before .before .before .before .if3 .left), told-yes _ _ (c .before .before .before .before .size-good2 .ensures) (c .before .before .before .if4 .left), eq-eqb _ _ (c .before .if5 .left))
+returns-6 c = rw (
+  le-leb _ _ (c .before .before .before .before .before .before .before .before .before .if1 .left),
+  told-yes _ _ (c .before .before .before .before .before .before .before .before .kind-good .ensures) (c .before .before .before .before .before .before .before .if2 .left),
+  told-yes _ _ (c .before .before .before .before .before .before .size-good .ensures) (c .before .before .before .before .before .if3 .left),
+  told-yes _ _ (c .before .before .before .before .size-good2 .ensures) (c .before .before .before .if4 .left),
+  eq-eqb _ _ (c .before .if5 .left),
+)
 
 pub leader-good-spec : {M : Type 1} → statement M
 leader-good-spec =

@@ -72,7 +72,12 @@ add-fields-good-2 : tie.Need-add-fields-good-2
 add-fields-good-2 c = search needs
 
 fields-good-requires : tie.Need-fields-good-requires
-fields-good-requires c κs = omega (arith, div-mul-le-self (c .before .before .before .before .before .before .before .before .args .base - 25) (4 + c .before .before .before .before .before .before .before .before .args .l + c .before .before .before .before .before .before .before .before .args .p))
+fields-good-requires c κs =
+    omega (
+      arith,
+      div-mul-le-self (c .before .before .before .before .before .before .before .before .args .base - 25)
+          (4 + c .before .before .before .before .before .before .before .before .args .l + c .before .before .before .before .before .before .before .before .args .p),
+    )
 
 returns-7 : tie.Need-returns-7
 unfolding bodyGood

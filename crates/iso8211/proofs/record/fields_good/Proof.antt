@@ -10,7 +10,8 @@ use Rattle.iso8211.proofs.record.fields_good.Statement.{statement}
 use Rattle.iso8211.proofs.record.fields_good.Tie as tie
 
 abbrev Inv-loop : tie.InvT-loop
-Inv-loop s l p i count body size at₀ left₀ due₀ at left due = (due ≤ size) × (at + left * rowWidth l p ≤ length s) × Left s l p body size (inRow s body size (rows count s l p i) 0) left at due
+Inv-loop s l p i count body size at₀ left₀ due₀ at left due = (due ≤ size) × (at + left * rowWidth l p ≤ length s)
+    × Left s l p body size (inRow s body size (rows count s l p i) 0) left at due
 
 abbrev μ-loop : tie.MeasureT-loop
 μ-loop s l p i count body size at₀ left₀ due₀ at left due = left
@@ -34,7 +35,8 @@ enum-told : tie.Need-enum-told Inv-loop μ-loop
 enum-told c = search needs
 
 returns : tie.Need-returns Inv-loop μ-loop
-returns c = left-bad (c .before .before .before .before .before .before .loop .inv .2) _ (omega arith) _ (c .before .before .before .batch .ensures) (c .before .before .judged .ensures) (search needs)
+returns c = left-bad (c .before .before .before .before .before .before .loop .inv .2) _ (omega arith) _ (c .before .before .before .batch .ensures)
+    (c .before .before .judged .ensures) (search needs)
 
 add-at : tie.Need-add-at Inv-loop μ-loop
 add-at c = search needs
@@ -43,10 +45,18 @@ add-at-2 : tie.Need-add-at-2 Inv-loop μ-loop
 add-at-2 c = search needs
 
 mul-at : tie.Need-mul-at Inv-loop μ-loop
-mul-at c = omega (arith, left-room _ (c .before .before .before .before .before .batch-size .result) _ _ _ (omega arith) (c .before .before .before .before .before .before .before .loop .inv .1))
+mul-at c = omega (
+  arith,
+  left-room _ (c .before .before .before .before .before .batch-size .result) _ _ _ (omega arith)
+      (c .before .before .before .before .before .before .before .loop .inv .1),
+)
 
 add-at-3 : tie.Need-add-at-3 Inv-loop μ-loop
-add-at-3 c = omega (arith, left-room _ (c .before .before .before .before .before .batch-size .result) _ _ _ (omega arith) (c .before .before .before .before .before .before .before .loop .inv .1))
+add-at-3 c = omega (
+  arith,
+  left-room _ (c .before .before .before .before .before .batch-size .result) _ _ _ (omega arith)
+      (c .before .before .before .before .before .before .before .loop .inv .1),
+)
 
 sub-left : tie.Need-sub-left Inv-loop μ-loop
 sub-left c = omega arith
@@ -55,7 +65,13 @@ loop-less : tie.Need-loop-less Inv-loop μ-loop
 loop-less c = omega arith
 
 loop-again : tie.Need-loop-again Inv-loop μ-loop
-loop-again c = (batch-most (c .before .before .before .judged .ensures) (search needs), left-less _ _ _ _ _ (omega arith) (c .before .before .before .before .before .before .before .loop .inv .1), left-on (c .before .before .before .before .before .before .before .loop .inv .2) _ (omega arith) _ (c .before .before .before .before .batch .ensures) (c .before .before .before .judged .ensures) (search needs))
+loop-again c = (
+  batch-most (c .before .before .before .judged .ensures) (search needs),
+  left-less _ _ _ _ _ (omega arith)
+      (c .before .before .before .before .before .before .before .loop .inv .1),
+  left-on (c .before .before .before .before .before .before .before .loop .inv .2) _ (omega arith)
+      _ (c .before .before .before .before .batch .ensures) (c .before .before .before .judged .ensures) (search needs),
+)
 
 returns-2 : tie.Need-returns-2 Inv-loop μ-loop
 returns-2 c = left-end (c .before .loop .inv .2) (omega arith)

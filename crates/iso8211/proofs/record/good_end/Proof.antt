@@ -42,13 +42,25 @@ body-good-requires : tie.Need-body-good-requires
 body-good-requires c κs = search needs
 
 returns-2 : tie.Need-returns-2
-returns-2 c = (end-body _ _ _ _ _ _ _ _ _ (c .before .before .before .before .before .before .before .leader-good .ensures) (c .before .before .before .before .before .before .if1 .left) (c .before .before .before .before .before .get-digits .ensures .is) (c .before .before .before .before .get-digits2 .ensures .is) (c .before .before .before .digit-at .ensures .0) (c .before .before .digit-at2 .ensures .0) (c .before .body-good .ensures) (c .if2 .taken), omega arith)
+returns-2 c = (
+  end-body _ _ _ _ _ _ _ _ _ (c .before .before .before .before .before .before .before .leader-good .ensures)
+      (c .before .before .before .before .before .before .if1 .left) (c .before .before .before .before .before .get-digits .ensures .is)
+      (c .before .before .before .before .get-digits2 .ensures .is) (c .before .before .before .digit-at .ensures .0) (c .before .before .digit-at2 .ensures .0)
+      (c .before .body-good .ensures) (c .if2 .taken),
+  omega arith,
+)
 
 add-result : tie.Need-add-result
 add-result c = search needs
 
 returns-3 : tie.Need-returns-3
-returns-3 c = (end-good _ _ _ _ _ _ _ _ _ (c .before .before .before .before .before .before .before .leader-good .ensures) (c .before .before .before .before .before .before .if1 .left) (c .before .before .before .before .before .get-digits .ensures .is) (c .before .before .before .before .get-digits2 .ensures .is) (c .before .before .before .digit-at .ensures .0) (c .before .before .digit-at2 .ensures .0) (c .before .body-good .ensures) (c .if2 .left), end-within _ _ _ _ _ _ _ (c .before .body-good .ensures) (c .if2 .left))
+returns-3 c = (
+  end-good _ _ _ _ _ _ _ _ _ (c .before .before .before .before .before .before .before .leader-good .ensures)
+      (c .before .before .before .before .before .before .if1 .left) (c .before .before .before .before .before .get-digits .ensures .is)
+      (c .before .before .before .before .get-digits2 .ensures .is) (c .before .before .before .digit-at .ensures .0) (c .before .before .digit-at2 .ensures .0)
+      (c .before .body-good .ensures) (c .if2 .left),
+  end-within _ _ _ _ _ _ _ (c .before .body-good .ensures) (c .if2 .left),
+)
 
 pub good-end-spec : {M : Type 1} → statement M
 good-end-spec =

@@ -25,7 +25,8 @@ part-count-requires : tie.Need-part-count-requires Inv-loop μ-loop
 part-count-requires c κs = search needs
 
 add-n : tie.Need-add-n Inv-loop μ-loop
-add-n c = let room = count-room _ _ _ _ _ _ (c .before .before .before .before .pre .laid) (c .before .before .before .before .pre .list) (c .before .before .before .before .pre .head .count) (c .before .before .loop .inv .1) _ (search needs) (c .part-count .ensures) in omega arith
+add-n c = let room = count-room _ _ _ _ _ _ (c .before .before .before .before .pre .laid) (c .before .before .before .before .pre .list)
+    (c .before .before .before .before .pre .head .count) (c .before .before .loop .inv .1) _ (search needs) (c .part-count .ensures) in omega arith
 
 add-j : tie.Need-add-j Inv-loop μ-loop
 add-j c = search needs
@@ -37,7 +38,8 @@ loop-again : tie.Need-loop-again Inv-loop μ-loop
 loop-again c = (search needs, search (needs, count-on))
 
 returns : tie.Need-returns Inv-loop μ-loop
-returns c = count-end _ _ _ _ _ _ (c .before .before .before .pre .laid) (c .before .before .before .pre .list) (c .before .before .before .pre .head .count) (c .before .loop .inv .1) (search needs)
+returns c = count-end _ _ _ _ _ _ (c .before .before .before .pre .laid) (c .before .before .before .pre .list) (c .before .before .before .pre .head .count)
+    (c .before .loop .inv .1) (search needs)
 
 pub count-spec : {M : Type 1} → statement M
 count-spec =

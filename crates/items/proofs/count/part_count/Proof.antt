@@ -25,10 +25,14 @@ div-result : tie.Need-div-result
 div-result c = search needs
 
 returns : tie.Need-returns
-returns c = part-divided _ _ _ _ _ _ _ (c .before .before .before .before .before .before .tag-of .ensures) (c .before .before .before .before .before .kind-of .ensures .0) (search needs) (c .before .before .before .field-at .ensures) _ (c .before .shape-of .ensures .0) (c .before .before .before .before .before .before .before .before .pre .0 .laid) (c .before .before .before .before .before .before .before .before .pre .1) (c .before .shape-of .ensures .1) (search needs)
+returns c = part-divided _ _ _ _ _ _ _ (c .before .before .before .before .before .before .tag-of .ensures) (c .before .before .before .before .before .kind-of .ensures .0)
+    (search needs) (c .before .before .before .field-at .ensures) _ (c .before .shape-of .ensures .0)
+    (c .before .before .before .before .before .before .before .before .pre .0 .laid) (c .before .before .before .before .before .before .before .before .pre .1)
+    (c .before .shape-of .ensures .1) (search needs)
 
 add-to : tie.Need-add-to
-add-to c = let ends = field-ends _ _ _ _ (c .before .before .before .before .before .before .before .before .pre .0 .laid) (c .before .before .before .field-at .ensures) (c .before .before .before .before .before .before .before .before .pre .1) in omega arith
+add-to c = let ends = field-ends _ _ _ _ (c .before .before .before .before .before .before .before .before .pre .0 .laid) (c .before .before .before .field-at .ensures)
+    (c .before .before .before .before .before .before .before .before .pre .1) in omega arith
 
 sub-extent-of : tie.Need-sub-extent-of
 sub-extent-of c = search needs
@@ -37,13 +41,16 @@ part-extent-of-start : tie.Need-part-extent-of-start
 part-extent-of-start c = search needs
 
 part-extent-of-end : tie.Need-part-extent-of-end
-part-extent-of-end c = let ends = field-ends _ _ _ _ (c .before .before .before .before .before .before .before .before .pre .0 .laid) (c .before .before .before .field-at .ensures) (c .before .before .before .before .before .before .before .before .pre .1) in omega arith
+part-extent-of-end c = let ends = field-ends _ _ _ _ (c .before .before .before .before .before .before .before .before .pre .0 .laid)
+    (c .before .before .before .field-at .ensures) (c .before .before .before .before .before .before .before .before .pre .1) in omega arith
 
 extent-of-requires : tie.Need-extent-of-requires
 extent-of-requires c κs = search needs
 
 returns-2 : tie.Need-returns-2
-returns-2 c = part-counted _ _ _ _ _ _ _ (c .before .before .before .before .before .before .before .before .tag-of .ensures) (c .before .before .before .before .before .before .before .kind-of .ensures .0) (search needs) (c .before .before .before .before .before .field-at .ensures) _ (c .before .before .before .shape-of .ensures .0) _ (c .extent-of .ensures .0)
+returns-2 c = part-counted _ _ _ _ _ _ _ (c .before .before .before .before .before .before .before .before .tag-of .ensures)
+    (c .before .before .before .before .before .before .before .kind-of .ensures .0) (search needs) (c .before .before .before .before .before .field-at .ensures)
+    _ (c .before .before .before .shape-of .ensures .0) _ (c .extent-of .ensures .0)
 
 returns-3 : tie.Need-returns-3
 returns-3 c = search (needs, part-uncounted)

@@ -13,7 +13,8 @@ use Rattle.items.proofs.step.settled.Statement.{statement}
 use Rattle.items.proofs.step.settled.Tie as tie
 
 abbrev Inv-loop : tie.InvT-loop
-Inv-loop s at h k from to count field₀ field = (field ≤ countAt s at) × (entriesOf (shapeOf k) (joinFrom (countAt s at - field₀) s at k field₀) ≡ entriesOf (shapeOf k) (joinFrom (countAt s at - field) s at k field))
+Inv-loop s at h k from to count field₀ field = (field ≤ countAt s at)
+    × (entriesOf (shapeOf k) (joinFrom (countAt s at - field₀) s at k field₀) ≡ entriesOf (shapeOf k) (joinFrom (countAt s at - field) s at k field))
 
 abbrev μ-loop : tie.MeasureT-loop
 μ-loop s at h k from to count field₀ field = countAt s at - field
@@ -40,10 +41,14 @@ sub-t17 : tie.Need-sub-t17 Inv-loop μ-loop
 sub-t17 c = field-some _ _ _ _ (c .before .before .before .before .before .before .before .before .before .pre .0 .laid) (c .before .field-at .ensures) (omega arith)
 
 add-t18 : tie.Need-add-t18 Inv-loop μ-loop
-add-t18 c = let ends = field-ends _ _ _ _ (c .before .before .before .before .before .before .before .before .before .pre .0 .laid) (c .before .field-at .ensures) (omega arith) in omega arith
+add-t18 c = let ends = field-ends _ _ _ _ (c .before .before .before .before .before .before .before .before .before .pre .0 .laid) (c .before .field-at .ensures)
+    (omega arith) in omega arith
 
 returns-2 : tie.Need-returns-2 Inv-loop μ-loop
-returns-2 c = settled-found _ _ _ _ _ _ (c .before .before .before .before .before .before .before .before .before .pre .0 .head .count) (c .before .before .before .before .before .before .loop .inv .1) _ _ (search needs) (c .before .before .before .before .tag-of .ensures) (c .before .before .before .kind-of .ensures .0) _ _ (c .before .before .before .before .before .before .before .before .before .pre .0 .laid) (c .before .before .before .before .before .before .before .before .before .pre .0 .list) (search needs) (search needs) (search needs) (c .before .field-at .ensures)
+returns-2 c = settled-found _ _ _ _ _ _ (c .before .before .before .before .before .before .before .before .before .pre .0 .head .count)
+    (c .before .before .before .before .before .before .loop .inv .1) _ _ (search needs) (c .before .before .before .before .tag-of .ensures)
+    (c .before .before .before .kind-of .ensures .0) _ _ (c .before .before .before .before .before .before .before .before .before .pre .0 .laid)
+    (c .before .before .before .before .before .before .before .before .before .pre .0 .list) (search needs) (search needs) (search needs) (c .before .field-at .ensures)
 
 add-field : tie.Need-add-field Inv-loop μ-loop
 add-field c = search needs
@@ -52,7 +57,11 @@ loop-less : tie.Need-loop-less Inv-loop μ-loop
 loop-less c = search needs
 
 loop-again : tie.Need-loop-again Inv-loop μ-loop
-loop-again c = (search needs, settled-skip _ _ _ _ _ _ (c .before .before .before .before .before .before .before .pre .0 .head .count) (c .before .before .before .before .loop .inv .1) _ _ (search needs) (c .before .before .tag-of .ensures) (c .before .kind-of .ensures .0) (search needs))
+loop-again c = (
+  search needs,
+  settled-skip _ _ _ _ _ _ (c .before .before .before .before .before .before .before .pre .0 .head .count)
+      (c .before .before .before .before .loop .inv .1) _ _ (search needs) (c .before .before .tag-of .ensures) (c .before .kind-of .ensures .0) (search needs),
+)
 
 returns-3 : tie.Need-returns-3 Inv-loop μ-loop
 returns-3 c = search (needs, settled-end)

@@ -1,5 +1,5 @@
 -- The header and the lines, joined; the words in the work area are those of the cell in held order.
-use Rattle.listing.proofs.ListingLaws.{order-room, lines-room, cell-listable, cell-wrote}
+use Rattle.listingrows.proofs.ListingLaws.{order-room, lines-room, cell-listable, cell-wrote}
 use borrow.Author.Needs.{needs}
 use Rattle.listing.proofs.lines.put_cell.Statement.{statement}
 use Rattle.listing.proofs.lines.put_cell.Tie as tie

@@ -1,5 +1,5 @@
 -- A line of seven numbers of ten digits takes at most 80 bytes.
-use Rattle.listing.proofs.ListingLaws.{item-room, item-wrote, item-end}
+use Rattle.listingrows.proofs.ListingLaws.{item-room, item-wrote, item-end}
 use borrow.Author.Needs.{needs}
 use Rattle.listing.proofs.lines.put_item.Statement.{statement}
 use Rattle.listing.proofs.lines.put_item.Tie as tie

@@ -5,14 +5,16 @@ use native.Mathlib.Omega.{arith}
 use lib.ListN.{length, drop}
 use Rattle.octets.specs.Area.{Going}
 use Rattle.words.specs.Words.{wordsIn}
-use Rattle.listing.specs.Listing.{linesFrom}
-use Rattle.listing.proofs.ListingLaws.{lines-start, lines-on, lines-end, listed-word}
+use Rattle.names.specs.NameWords.{itemsAt}
+use Rattle.listingrows.specs.Listing.{linesFrom}
+use Rattle.listingrows.proofs.ListingLaws.{lines-start, lines-on, lines-end, listed-word}
 use borrow.Author.Needs.{needs}
 use Rattle.listing.proofs.lines.put_lines.Statement.{statement}
 use Rattle.listing.proofs.lines.put_lines.Tie as tie
 
 abbrev Inv-loop : tie.InvT-loop
-Inv-loop s m work out₀ at next₀ k₀ out next k = (length out ≡ length out₀) × (k ≤ m) × (next ≤ at + 80 * k) × Going out₀ at (linesFrom 3 s (wordsIn work 0 m)) out next (linesFrom (k + 3) s (drop k (wordsIn work 0 m)))
+Inv-loop s m work out₀ at next₀ k₀ out next k = (length out ≡ length out₀) × (k ≤ m) × (next ≤ at + 80 * k) × Going out₀ at (linesFrom 3 (itemsAt s (wordsIn work 0 m))) out next
+    (linesFrom (k + 3) (itemsAt s (drop k (wordsIn work 0 m))))
 
 abbrev μ-loop : tie.MeasureT-loop
 μ-loop s m work out₀ at next₀ k₀ out next k = m - k

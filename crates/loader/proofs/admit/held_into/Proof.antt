@@ -10,7 +10,7 @@ answered-requires : tie.Need-answered-requires
 answered-requires c κs = search needs
 
 returns : tie.Need-returns
-returns c = (search (needs, size-answer, many-fail), search (needs, size-area, many-fail))
+returns c = (search (needs, size-answer, many-fail), search (needs, size-area))
 
 sub-m : tie.Need-sub-m
 sub-m c = search needs
@@ -22,13 +22,13 @@ answered-requires-2 : tie.Need-answered-requires-2
 answered-requires-2 c κs = search needs
 
 returns-2 : tie.Need-returns-2
-returns-2 c = (search (needs, size-answer, plan-fails), search (needs, size-area, plan-fails))
+returns-2 c = (search (needs, size-answer, plan-fails), search (needs, size-area))
 
 answered-requires-3 : tie.Need-answered-requires-3
 answered-requires-3 c κs = search needs
 
 returns-3 : tie.Need-returns-3
-returns-3 c = (search (needs, room-answer, plan-fits, plan-total), search (needs, room-area, plan-fits, plan-total))
+returns-3 c = (search (needs, room-answer, plan-fits, plan-total), search (needs, room-area))
 
 put-chart-requires : tie.Need-put-chart-requires
 put-chart-requires c κs = (search (needs, ready-writing), search (needs, plan-room))
@@ -40,7 +40,12 @@ same-length : tie.Need-same-length
 same-length c = search needs
 
 returns-4 : tie.Need-returns-4
-returns-4 c = (search (needs, done-answer, plan-fits, plan-total), done-area _ _ (search (needs, plan-fits)) _ _ (plan-put _ _ _ (c .before .before .before .before .before .before .before .before .before .before .before .before .before .pre) _ _ refl (c .before .before .before .before .before .before .before .before .planned .ensures) (c .before .before .before .put-chart .ensures)))
+returns-4 c = (
+  search (needs, done-answer, plan-fits, plan-total),
+  done-area _ _ _ _ _ _ (c .answered4 .ensures)
+      (plan-put _ _ _ (c .before .before .before .before .before .before .before .before .before .before .before .before .before .pre) _ _ refl
+      (c .before .before .before .before .before .before .before .before .planned .ensures) (c .before .before .before .put-chart .ensures)),
+)
 
 pub held-into-spec : {M : Type 1} → statement M
 held-into-spec =

@@ -1,5 +1,5 @@
 -- By unfolding.
-use Rattle.merge.specs.Words.{marked}
+use Rattle.items.specs.Word.{marked}
 use borrow.Author.Needs.{needs}
 use Rattle.merge.proofs.turn.mark.Statement.{statement}
 use Rattle.merge.proofs.turn.mark.Tie as tie

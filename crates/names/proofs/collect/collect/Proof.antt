@@ -2,7 +2,7 @@
 use Prim.Native.Nat.{_+_, _-_, _≤_}
 use mathlib.Core.Path.{_≡_}
 use Rattle.iso8211.specs.File.{recordAt}
-use Rattle.names.specs.Names.{wordsFrom}
+use Rattle.names.specs.NameWords.{wordsFrom}
 use Rattle.names.specs.Area.{Collected}
 use Rattle.names.proofs.CollectLaws.{holds-none, turn-framed, turn-laid, turn-identified, collect-place, collect-next, collect-turn, collect-done}
 use Rattle.iso8211.proofs.Promise.{framed-headed}

@@ -1,12 +1,11 @@
 use borrow.Author.Fill.{fill-more}
 use Rattle.octets.proofs.AreaLaws.{clear-all}
 use native.Mathlib.Omega.{arith}
-use lib.ListN.{length-set}
+use lib.ListN.{length-set, length, drop, replicate}
 -- What is cleared so far are i zeros in front of the rest as it was.
 use Prim.Native.Nat.{_≤_, _-_}
 use mathlib.Core.Path.{_≡_}
 use mathlib.Core.List.{_++_}
-use lib.ListN.{length, drop, replicate}
 use borrow.Author.Needs.{needs}
 use Rattle.octets.proofs.area.clear.Statement.{statement}
 use Rattle.octets.proofs.area.clear.Tie as tie

@@ -2,10 +2,9 @@ use Rattle.octets.proofs.DigitsLaws.{digits-none, digits-more, digits-a
 use Rattle.octets.proofs.AreaLaws.{wrote-length}
 use native.Mathlib.Omega.{arith}
 use native.Mathlib.Nat.{div-one}
-use mathlib.Core.Path.{sym, refl}
+use mathlib.Core.Path.{sym, refl, _≡_}
 -- The invariant: the last c digits are written, and what is left is v without them.
 use Prim.Native.Nat.{_≤_, _-_, _+_, _/_, _^_}
-use mathlib.Core.Path.{_≡_}
 use Rattle.octets.specs.Digits.{digitsOf}
 use Rattle.octets.specs.Area.{Wrote}
 use borrow.Author.Needs.{needs}
@@ -43,7 +42,12 @@ loop-less : tie.Need-loop-less Inv-loop μ-loop
 loop-less c = search needs
 
 loop-again : tie.Need-loop-again Inv-loop μ-loop
-loop-again c = (omega arith, ten-less _ _ _ (c .before .before .before .before .before .loop .inv .1), digits-more _ _ _ _ _ (c .before .before .before .before .loop-test .taken) (c .before .before .before .before .before .loop .inv .1) refl (c .before .before .before .before .before .loop .inv .2) (c .before .before .put1 .ensures))
+loop-again c = (
+  omega arith,
+  ten-less _ _ _ (c .before .before .before .before .before .loop .inv .1),
+  digits-more _ _ _ _ _ (c .before .before .before .before .loop-test .taken)
+      (c .before .before .before .before .before .loop .inv .1) refl (c .before .before .before .before .before .loop .inv .2) (c .before .before .put1 .ensures),
+)
 
 add-result : tie.Need-add-result Inv-loop μ-loop
 add-result c = search needs

@@ -2,7 +2,6 @@ use Rattle.octets.proofs.NumberLaws.{reads-one}
 use borrow.Author.Needs.{needs}
 use Rattle.octets.proofs.number.get1.Statement.{statement}
 use Rattle.octets.proofs.number.get1.Tie as tie
-use Rattle.octets.proofs.number.get1.Reads as reads
 
 shared-slice-read-wide : tie.Need-shared-slice-read-wide
 shared-slice-read-wide c = search needs

@@ -2,7 +2,6 @@ use Rattle.octets.proofs.NumberLaws.{reads-join}
 use borrow.Author.Needs.{needs}
 use Rattle.octets.proofs.number.get2.Statement.{statement}
 use Rattle.octets.proofs.number.get2.Tie as tie
-use Rattle.octets.proofs.number.get2.Reads as reads
 
 get1-requires : tie.Need-get1-requires
 get1-requires c κs = search needs

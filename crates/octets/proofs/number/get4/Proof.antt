@@ -2,7 +2,6 @@ use Rattle.octets.proofs.NumberLaws.{reads-join}
 use borrow.Author.Needs.{needs}
 use Rattle.octets.proofs.number.get4.Statement.{statement}
 use Rattle.octets.proofs.number.get4.Tie as tie
-use Rattle.octets.proofs.number.get4.Reads as reads
 
 get2-requires : tie.Need-get2-requires
 get2-requires c κs = search needs

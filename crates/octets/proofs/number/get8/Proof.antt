@@ -2,7 +2,6 @@ use Rattle.octets.proofs.NumberLaws.{reads-join}
 use borrow.Author.Needs.{needs}
 use Rattle.octets.proofs.number.get8.Statement.{statement}
 use Rattle.octets.proofs.number.get8.Tie as tie
-use Rattle.octets.proofs.number.get8.Reads as reads
 
 get4-requires : tie.Need-get4-requires
 get4-requires c κs = search needs

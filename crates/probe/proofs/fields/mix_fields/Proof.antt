@@ -14,7 +14,11 @@ abbrev μ-loop : tie.MeasureT-loop
 μ-loop file at sum head count so₀ k₀ so k = count - k
 
 mix-field-requires : tie.Need-mix-field-requires Inv-loop μ-loop
-mix-field-requires c κs = (search needs, let ends : c .field-at .result .start + c .field-at .result .length ≤ length (c .before .before .before .before .before .args .file .now) = search (needs, field-ends) in omega arith)
+mix-field-requires c κs = (
+  search needs,
+  let ends : c .field-at .result .start + c .field-at .result .length ≤ length (c .before .before .before .before .before .args .file .now) =
+      search (needs, field-ends) in omega arith,
+)
 
 pub mix-fields-spec : {M : Type 1} → statement M
 mix-fields-spec =

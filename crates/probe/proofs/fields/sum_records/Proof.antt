@@ -2,8 +2,7 @@
 use Prim.Native.Nat.{_-_, _≤_, _<_}
 use mathlib.Core.Path.{_≡_}
 use Rattle.iso8211.specs.File.{recordAt}
-use Rattle.iso8211.proofs.Promise.{framed-at, at-start, at-on}
-use Rattle.iso8211.proofs.Promise.{record-in}
+use Rattle.iso8211.proofs.Promise.{framed-at, at-start, at-on, record-in}
 use borrow.Author.Needs.{needs}
 use Rattle.probe.proofs.fields.sum_records.Statement.{statement}
 use Rattle.probe.proofs.fields.sum_records.Tie as tie

@@ -29,7 +29,8 @@ returns-2 : tie.Need-returns-2
 returns-2 c = front-count _ _ _ (c .before .before .before .before .if1 .left) (c .before .before .before .frame .ensures) _ (search needs)
 
 returns-3 : tie.Need-returns-3
-returns-3 c = front-broken _ _ _ (c .before .before .before .before .before .before .if1 .left) (c .before .before .before .before .before .frame .ensures) _ _ _ (search needs) (c .before .place .ensures) (c .answered2 .ensures)
+returns-3 c = front-broken _ _ _ (c .before .before .before .before .before .before .if1 .left) (c .before .before .before .before .before .frame .ensures) _ _ _ (search needs)
+    (c .before .place .ensures) (c .answered2 .ensures)
 
 pub opened-spec : {M : Type 1} → statement M
 opened-spec =

@@ -5,14 +5,14 @@ use mathlib.Core.Path.{_≡_}
 use lib.ListN.{drop}
 use Rattle.words.specs.Words.{wordsIn}
 use Rattle.held.specs.Held.{tallyIn}
-use Rattle.writing.specs.All.{objectsAt}
+use Rattle.names.specs.NameWords.{itemsAt}
 use Rattle.reissue.specs.Tally.{withObjects}
 use borrow.Author.Needs.{needs}
 use Rattle.reissue.proofs.tally.tally_words.Statement.{statement}
 use Rattle.reissue.proofs.tally.tally_words.Tie as tie
 
 abbrev Inv-loop : tie.InvT-loop
-Inv-loop s m work t₀ k₀ t k = (k ≤ m) × (tallyIn (objectsAt s (wordsIn work 0 m)) ≡ withObjects t (objectsAt s (drop k (wordsIn work 0 m))))
+Inv-loop s m work t₀ k₀ t k = (k ≤ m) × (tallyIn (itemsAt s (wordsIn work 0 m)) ≡ withObjects t (itemsAt s (drop k (wordsIn work 0 m))))
 
 abbrev μ-loop : tie.MeasureT-loop
 μ-loop s m work t₀ k₀ t k = m - k

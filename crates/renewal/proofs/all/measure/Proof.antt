@@ -3,10 +3,10 @@ use Prim.Native.Nat.{_-_, _≤_}
 use mathlib.Core.Path.{_≡_}
 use lib.ListN.{length}
 use Rattle.merge.specs.Places.{placesFrom}
-use Rattle.result.specs.Able.{AllAble, Rooms}
-use Rattle.renewal.specs.Items.{objectsFrom, objectsIn, Counted}
-use Rattle.result.proofs.PlacesLaws.{walk-able, walk-rest}
-use Rattle.renewal.proofs.AllLaws.{able-start, counted-start, counted-on, counted-end}
+use Rattle.resultitems.specs.Able.{AllAble, Rooms}
+use Rattle.resultitems.specs.Items.{objectsFrom, objectsIn, Counted}
+use Rattle.resultitems.proofs.PlacesLaws.{walk-able, walk-rest}
+use Rattle.resultitems.proofs.AllLaws.{able-start, counted-start, counted-on, counted-end}
 use borrow.Author.Needs.{needs}
 use Rattle.renewal.proofs.all.measure.Statement.{statement}
 use Rattle.renewal.proofs.all.measure.Tie as tie

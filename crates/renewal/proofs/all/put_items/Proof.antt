@@ -3,12 +3,12 @@ use Prim.Native.Nat.{_+_, _-_, _≤_}
 use mathlib.Core.Path.{_≡_}
 use lib.ListN.{length}
 use Rattle.merge.specs.Places.{placesFrom}
-use Rattle.result.specs.Able.{AllAble, Rooms}
+use Rattle.resultitems.specs.Able.{AllAble, Rooms}
 use Rattle.octets.specs.Area.{Going}
 use Rattle.octets.proofs.AreaLaws.{going-length}
-use Rattle.renewal.specs.Items.{objectsFrom, objectsIn, writtenBy}
-use Rattle.result.proofs.PlacesLaws.{walk-able, walk-rest}
-use Rattle.renewal.proofs.AllLaws.{able-start, items-start, items-room, items-on, items-end}
+use Rattle.resultitems.specs.Items.{objectsFrom, objectsIn, writtenBy}
+use Rattle.resultitems.proofs.PlacesLaws.{walk-able, walk-rest}
+use Rattle.resultitems.proofs.AllLaws.{able-start, items-start, items-room, items-on, items-end}
 use borrow.Author.Needs.{needs}
 use Rattle.renewal.proofs.all.put_items.Statement.{statement}
 use Rattle.renewal.proofs.all.put_items.Tie as tie

@@ -1,5 +1,5 @@
 -- A changed item is built first; of another the mark says where its record stands.
-use Rattle.result.proofs.ItemLaws.{new-stood, kept-stood}
+use Rattle.resultitems.proofs.ItemLaws.{new-stood, kept-stood}
 use Rattle.renewal.proofs.ItemLaws.{new-writable, kept-writable, stood-room, stood-wrote}
 use borrow.Author.Needs.{needs}
 use Rattle.renewal.proofs.item.put_at.Statement.{statement}

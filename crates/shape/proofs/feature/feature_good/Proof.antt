@@ -1,5 +1,5 @@
 -- The ways through, each by its law.
-use Rattle.shape.proofs.ShapeLaws.{feature-none, feature-bare, feature-drawn, feature-few, feature-all}
+use Rattle.vectorshape.proofs.ShapeLaws.{feature-none, feature-bare, feature-drawn, feature-few, feature-all}
 use Rattle.items.proofs.KindLaws.{fspt-list}
 use borrow.Author.Needs.{needs}
 use Rattle.shape.proofs.feature.feature_good.Statement.{statement}

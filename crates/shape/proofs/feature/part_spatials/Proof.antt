@@ -5,14 +5,15 @@ use lib.ListN.{length, drop}
 use Rattle.entries.specs.Entries.{entriesOf}
 use Rattle.entries.specs.Rules.{allOf}
 use Rattle.items.proofs.PartLaws.{stride-end, stride-no, stride-on}
-use Rattle.shape.specs.Shape.{spatialGood}
-use Rattle.shape.proofs.ShapeLaws.{stride-long}
+use Rattle.vectorshape.specs.Shape.{spatialGood}
+use Rattle.vectorshape.proofs.ShapeLaws.{stride-long}
 use borrow.Author.Needs.{needs}
 use Rattle.shape.proofs.feature.part_spatials.Statement.{statement}
 use Rattle.shape.proofs.feature.part_spatials.Tie as tie
 
 abbrev Inv-loop : tie.InvT-loop
-Inv-loop part prim at₀ at = (at ≤ length part) × (allOf (spatialGood prim) (entriesOf (record { fixed = 8; unit = 0 }) part) ≡ allOf (spatialGood prim) (entriesOf (record { fixed = 8; unit = 0 }) (drop at part)))
+Inv-loop part prim at₀ at = (at ≤ length part)
+    × (allOf (spatialGood prim) (entriesOf (record { fixed = 8; unit = 0 }) part) ≡ allOf (spatialGood prim) (entriesOf (record { fixed = 8; unit = 0 }) (drop at part)))
 
 abbrev μ-loop : tie.MeasureT-loop
 μ-loop part prim at₀ at = length part - at

@@ -6,7 +6,7 @@ use Rattle.items.specs.Lists.{entriesAt}
 use Rattle.items.specs.Cursors.{left, CursorIn}
 use Rattle.items.proofs.CursorLaws.{begin-in, all-begin}
 use Rattle.items.proofs.PartLaws.{part-up, part-within, part-in, part-less, bare-told, parts-done, parts-no, parts-on}
-use Rattle.shape.specs.Shape.{spatialGood}
+use Rattle.vectorshape.specs.Shape.{spatialGood}
 use Rattle.items.proofs.KindLaws.{fspt-fixed, fspt-bare}
 use Rattle.table.specs.Table.{FSPT}
 use borrow.Author.Needs.{needs}

@@ -1,6 +1,6 @@
 -- Each test of the definition in its order.
-use Rattle.shape.proofs.ShapeLaws.{reads}
-use Rattle.shape.specs.Shape.{areaGood}
+use Rattle.vectorshape.proofs.ShapeLaws.{reads}
+use Rattle.vectorshape.specs.Shape.{areaGood}
 use borrow.Author.Needs.{needs}
 use Rattle.shape.proofs.spatial.area_good.Statement.{statement}
 use Rattle.shape.proofs.spatial.area_good.Tie as tie

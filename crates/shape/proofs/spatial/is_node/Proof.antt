@@ -1,6 +1,6 @@
 -- By the test.
 use Rattle.octets.proofs.Tests.{tests}
-use Rattle.shape.specs.Shape.{isNode}
+use Rattle.vectorshape.specs.Shape.{isNode}
 use Rattle.shape.proofs.spatial.is_node.Statement.{statement}
 use Rattle.shape.proofs.spatial.is_node.Tie as tie
 

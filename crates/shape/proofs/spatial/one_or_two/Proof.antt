@@ -1,6 +1,6 @@
 -- By the test.
 use Rattle.octets.proofs.Tests.{tests}
-use Rattle.shape.specs.Shape.{oneOrTwo}
+use Rattle.vectorshape.specs.Shape.{oneOrTwo}
 use Rattle.shape.proofs.spatial.one_or_two.Statement.{statement}
 use Rattle.shape.proofs.spatial.one_or_two.Tie as tie
 

@@ -1,6 +1,6 @@
 -- Each test of the definition in its order.
 use Rattle.octets.proofs.Tests.{chain}
-use Rattle.shape.specs.Shape.{pointGood}
+use Rattle.vectorshape.specs.Shape.{pointGood}
 use borrow.Author.Needs.{needs}
 use Rattle.shape.proofs.spatial.point_good.Statement.{statement}
 use Rattle.shape.proofs.spatial.point_good.Tie as tie

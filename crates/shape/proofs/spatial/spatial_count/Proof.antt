@@ -1,6 +1,6 @@
 -- By the test.
 use Rattle.octets.proofs.Tests.{tests}
-use Rattle.shape.specs.Shape.{spatialCount}
+use Rattle.vectorshape.specs.Shape.{spatialCount}
 use Rattle.shape.proofs.spatial.spatial_count.Statement.{statement}
 use Rattle.shape.proofs.spatial.spatial_count.Tie as tie
 

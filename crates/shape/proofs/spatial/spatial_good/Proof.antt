@@ -1,6 +1,6 @@
 -- By the primitive.
 use Rattle.octets.proofs.Tests.{tests}
-use Rattle.shape.specs.Shape.{spatialGood}
+use Rattle.vectorshape.specs.Shape.{spatialGood}
 use borrow.Author.Needs.{needs}
 use Rattle.shape.proofs.spatial.spatial_good.Statement.{statement}
 use Rattle.shape.proofs.spatial.spatial_good.Tie as tie

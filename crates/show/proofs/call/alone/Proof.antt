@@ -1,6 +1,6 @@
 -- Work first, then the refusal of codes 4 to 8, then the name. Assumes nothing.
 use native.Mathlib.Omega.{arith}
-use Rattle.reader.proofs.CallLaws.{few}
+use Rattle.readboth.proofs.CallLaws.{few}
 use Rattle.show.proofs.CallLaws.{alone-work, alone-filed, alone-on, alone-listed}
 use borrow.Author.Needs.{needs}
 use Rattle.show.proofs.call.alone.Statement.{statement}

@@ -1,6 +1,6 @@
 -- Work first, then the refusals of both, then the name. Assumes nothing.
 use native.Mathlib.Omega.{arith}
-use Rattle.reader.proofs.CallLaws.{few}
+use Rattle.readboth.proofs.CallLaws.{few}
 use Rattle.show.proofs.CallLaws.{pair-work, pair-filed, pair-on, pair-listed}
 use borrow.Author.Needs.{needs}
 use Rattle.show.proofs.call.pair.Statement.{statement}

@@ -2,7 +2,7 @@
 use lib.ListN.{replicate}
 use mathlib.Core.Path.{ap, _∙_}
 use Prim.Native.Nat.{ℕ}
-use Rattle.reader.proofs.CallLaws.{counted}
+use Rattle.readboth.proofs.CallLaws.{counted}
 use Rattle.show.proofs.CallLaws.{seen-refused, seen-on}
 use borrow.Author.Needs.{needs}
 use Rattle.show.proofs.call.seen.Statement.{statement}

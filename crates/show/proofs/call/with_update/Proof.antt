@@ -1,5 +1,5 @@
 -- The cell alone, or the update's front, then both. Assumes nothing.
-use Rattle.reader.proofs.CallLaws.{counted}
+use Rattle.readboth.proofs.CallLaws.{counted}
 use Rattle.show.proofs.CallLaws.{update-none, update-refused, update-counted}
 use borrow.Author.Needs.{needs}
 use Rattle.show.proofs.call.with_update.Statement.{statement}

@@ -1,0 +1,3 @@
+-- The laws of `allowed`.
+pub mod BroughtLaws
+pub mod IdentityLaws

@@ -1,0 +1,2 @@
+-- The notion of `allowed`.
+pub mod Brought

@@ -1,0 +1,3 @@
+-- The laws of `counted`.
+pub mod CountsLaws
+pub mod ComfLaws

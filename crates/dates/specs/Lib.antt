@@ -1,0 +1,2 @@
+-- The notion of `dates`.
+pub mod Date

@@ -1,0 +1,3 @@
+-- The laws of `declarations`, and examples.
+pub mod DescribedLaws
+pub mod Examples

@@ -1,2 +1,0 @@
--- The notions of `described`.
-pub mod Described

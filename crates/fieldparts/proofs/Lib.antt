@@ -1,0 +1,3 @@
+-- The laws of `fieldparts`.
+pub mod SameLaws
+pub mod DescriptiveLaws

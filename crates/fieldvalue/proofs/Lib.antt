@@ -1,0 +1,2 @@
+-- The laws of `fieldvalue`.
+pub mod ValueLaws

@@ -1,0 +1,2 @@
+-- The laws of `fronts`.
+pub mod FrontLaws

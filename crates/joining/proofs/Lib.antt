@@ -1,0 +1,2 @@
+-- The laws of `joining`: a list by the fields that bring it.
+pub mod PartLaws

@@ -1,0 +1,2 @@
+-- The notion of `judging`.
+pub mod Judge

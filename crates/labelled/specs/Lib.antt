@@ -1,0 +1,2 @@
+-- The notion of `labelled`.
+pub mod Table

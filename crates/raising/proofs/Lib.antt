@@ -1,0 +1,2 @@
+-- The laws of `raising`.
+pub mod FrontLaws

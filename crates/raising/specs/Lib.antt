@@ -1,0 +1,2 @@
+-- The notion of `raising`.
+pub mod Record

@@ -1,0 +1,3 @@
+-- The laws of `readboth`.
+pub mod BothLaws
+pub mod CallLaws

@@ -1,2 +1,0 @@
--- The notion of `rebuild`.
-pub mod Record

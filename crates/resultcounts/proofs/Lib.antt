@@ -1,0 +1,2 @@
+-- The laws of `resultcounts`.
+pub mod TallyLaws

@@ -1,0 +1,2 @@
+-- The notion of `resultcounts`.
+pub mod Counts

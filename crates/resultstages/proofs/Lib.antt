@@ -1,0 +1,4 @@
+-- The laws of `resultstages`.
+pub mod FrontLaws
+pub mod ResultLaws
+pub mod MergeLaws

@@ -1,0 +1,2 @@
+-- The notion of `resultstages`: what is known before each stage of Apply.
+pub mod Stages

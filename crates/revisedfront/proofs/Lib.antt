@@ -1,0 +1,2 @@
+-- The laws of `revisedfront`.
+pub mod FrontLaws

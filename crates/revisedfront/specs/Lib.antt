@@ -1,0 +1,2 @@
+-- The notion of `revisedfront`.
+pub mod Front

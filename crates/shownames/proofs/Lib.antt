@@ -1,0 +1,2 @@
+-- The laws of `shownames`.
+pub mod NamedLaws

@@ -1,0 +1,3 @@
+-- The notion of `shownames`.
+pub mod Named
+pub mod Premises

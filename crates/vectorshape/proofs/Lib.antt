@@ -1,0 +1,3 @@
+-- The laws of `vectorshape`.
+pub mod ShapeLaws
+pub mod EdgeLaws

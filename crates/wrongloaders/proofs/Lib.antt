@@ -1,0 +1,2 @@
+-- That the promise shuts each of them out.
+pub mod Wrong

@@ -1,0 +1,2 @@
+-- The wrong loaders.
+pub mod Loaders
