@@ -17,9 +17,10 @@ failed=0
 allowed() { # FOLDER FILE
     case "$1 $2" in
     'shared shared/'* | 'reader shared/'* | 'reader reader/'* | 'generators shared/'* | 'generators generators/'*) ;;
+    'tuned shared/'* | 'tuned tuned/'*) ;;
     'make shared/'* | 'make reader/'* | 'make generators/'*) ;;
-    'tests shared/'* | 'tests reader/'* | 'tests generators/'* | 'tests tests/'* | 'tests probe.h' | 'tests ../host/s57loader.h') ;;
-    'speed shared/'* | 'speed reader/'* | 'speed generators/'* | 'speed speed/'* | 'speed probe.h' | 'speed ../host/s57loader.h') ;;
+    'tests shared/'* | 'tests reader/'* | 'tests tuned/'* | 'tests generators/'* | 'tests tests/'* | 'tests probe.h' | 'tests ../host/s57loader.h') ;;
+    'speed shared/'* | 'speed reader/'* | 'speed tuned/'* | 'speed generators/'* | 'speed speed/'* | 'speed probe.h' | 'speed ../host/s57loader.h') ;;
     *) return 1 ;;
     esac
 }

@@ -7,6 +7,8 @@ top=$(cd "$(dirname "$0")/.." && pwd -P)
 program=${BENCH_OUT:-$top/target/bench}/$1
 name=$1
 shift
+# a script counts the instructions of its program
+[ "$name" != bounds ] || exec "$top/bench/instructions.sh"
 # compare_listing is told behind -- how to start the proved program: as bench/list does, unless the caller has said it.
 case "$name $* " in
 *' -- '*) ;;

@@ -159,12 +159,30 @@ static struct chart make_soundings(struct random *random)
     return chart;
 }
 
+/* ---- refused late in reading: the ordinary cell, its last record a feature */
+
+static struct chart make_late_value(struct random *random)
+{
+    enum { FRID = 1, PRIM = 5 };
+    struct chart chart = make_ordinary(random);
+    chart.list.record[chart.list.count - 1].field[FRID].content.bytes[PRIM] = 4;
+    return chart;
+}
+
+static struct chart make_late_layout(struct random *random)
+{
+    enum { FOID = 2 };
+    struct chart chart = make_ordinary(random);
+    chart.list.record[chart.list.count - 1].field[FOID].content.length--;
+    return chart;
+}
+
 /* ---- the table */
 
 static const struct heavy {
     const char *name;
     struct chart (*make)(struct random *random);
-    uint32_t code; /* of a topology at the last place, if not 0 */
+    uint32_t code; /* of the last record, be it in the file or in held order, if not 0 */
     size_t padded; /* the file's length; 0 for any */
 } heavies[] = {
     {"ordinary: 28,000 records", make_ordinary, 0, 0},
@@ -178,6 +196,8 @@ static const struct heavy {
     {"5,242,881 bytes", make_soundings, CODE_LONG, LARGEST_FILE + 1},
     {"the last of 34 areas of 12,000 edges open", make_open_circle, CODE_RING, 0},
     {"the last of 240,000 FFPT missing", make_missing_object, CODE_POINTER, 0},
+    {"ordinary, a wrong value in the last record", make_late_value, CODE_VALUE, 0},
+    {"ordinary, the last record's FOID cut short", make_late_layout, CODE_LAYOUT, 0},
 };
 
 size_t heavy_cells(void)

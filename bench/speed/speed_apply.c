@@ -1,9 +1,10 @@
-/* Apply, proved over C: nanoseconds a byte of both files, on an ordinary cell with an update of 500 records and on heavy pairs, as a table in Markdown; then
-   what Apply takes on the ordinary pair beside Admit on its cell. The output area is there before the clock starts.
-   usage: speed_apply [ROUNDS] */
+/* Apply, the proved one beside plain and tuned C: nanoseconds a byte of both files, on an ordinary cell with an update of 500 records and on heavy pairs, as a
+   table in Markdown; then what Apply takes on the ordinary pair beside Admit on its cell. The output area is there before the clock starts.
+   usage: speed_apply [ROUNDS] [--csv] */
 #include "../../host/s57loader.h"
 #include "../generators/generate_apply.h"
 #include "../reader/reader_calls.h"
+#include "../tuned/tuned.h"
 #include "speed.h"
 
 #include <stdio.h>
@@ -35,13 +36,15 @@ static uint64_t perform(void *context)
 }
 
 /* Of Apply a byte of both files, of Admit a byte of the cell. */
-static struct pair measure_case(const struct apply_case *made, bool admit, uint8_t *out, unsigned rounds)
+static struct times measure_case(const struct apply_case *made, bool admit, uint8_t *out, unsigned rounds)
 {
+    static const struct loader calls = {s57_judge, s57_admit, s57_apply}, fast = {tuned_judge, tuned_admit, tuned_apply};
     size_t work_length = S57_WORK_A_RECORD * made->records;
     uint8_t *work = grow(NULL, work_length, 1);
-    static const struct loader calls = {s57_judge, s57_admit, s57_apply};
-    struct task proved = {&calls, admit, made, out, work, work_length}, plain = {&loader_reader, admit, made, out, work, work_length};
-    struct pair best = measure(perform, &proved, &plain, made->cell.length + (admit ? 0 : made->update.length), rounds);
+    struct task proved = {&calls, admit, made, out, work, work_length}, plain = {&loader_reader, admit, made, out, work, work_length},
+                tuned = {&fast, admit, made, out, work, work_length};
+    const struct sides sides = {&proved, &plain, &tuned};
+    struct times best = measure(perform, sides, made->cell.length + (admit ? 0 : made->update.length), rounds);
     free(work);
     return best;
 }
@@ -49,33 +52,41 @@ static struct pair measure_case(const struct apply_case *made, bool admit, uint8
 static void print_beside_admit(uint8_t *out, unsigned rounds)
 {
     struct apply_case made = heavy_apply_make(0);
-    struct pair apply = measure_case(&made, false, out, rounds), admit = measure_case(&made, true, out, rounds);
+    struct times apply = measure_case(&made, false, out, rounds), admit = measure_case(&made, true, out, rounds);
     double bytes = (double)(made.cell.length + made.update.length) / (double)made.cell.length;
-    printf("\nApply / Admit of the cell, on the first pair: proved %.2f, C %.2f\n", apply.proved / admit.proved * bytes,
-           apply.plain / admit.plain * bytes);
+    printf("\nApply / Admit of the cell, on the first pair: proved %.2f, plain C %.2f, tuned C %.2f\n", apply.proved / admit.proved * bytes,
+           apply.plain / admit.plain * bytes, apply.tuned / admit.tuned * bytes);
     apply_case_free(&made);
+}
+
+static void print_row(const struct apply_case *made, const struct times *best, double ordinary)
+{
+    printf("| %s | %zu | %zu | %zu | %u ", made->kind, made->cell.length, made->update.length, made->records, (unsigned)made->verdict.code);
+    print_times(best, ordinary);
+    printf("\n");
 }
 
 /* The last rows are refused. */
 int main(int words, char **word)
 {
-    unsigned rounds = words > 1 ? (unsigned)strtoul(word[1], NULL, 10) : DEFAULT_ROUNDS;
+    struct wish wish = wish_of(words, word, DEFAULT_ROUNDS);
     uint8_t *out = grow(NULL, S57_LONGEST, 1);
     double ordinary = 0;
     memset(out, 0, S57_LONGEST);
-    printf("Apply\n\n");
-    printf("| cell and update | bytes of the cell | of the update | records | code | proved, ns a byte | C, ns a byte | proved / C | proved / proved "
-           "ordinary |\n");
-    printf("|---|---:|---:|---:|---:|---:|---:|---:|---:|\n");
+    if (!wish.csv)
+        printf("Apply\n\n| cell and update | bytes of the cell | of the update | records | code %s\n|---|---:|---:|---:|---:%s\n", times_head, times_rule);
     for (size_t i = 0; i < heavy_applies(); i++) {
         struct apply_case made = heavy_apply_make(i);
-        struct pair best = measure_case(&made, false, out, rounds);
+        struct times best = measure_case(&made, false, out, wish.rounds);
         ordinary = i == 0 ? best.proved : ordinary;
-        printf("| %s | %zu | %zu | %zu | %u ", made.kind, made.cell.length, made.update.length, made.records, (unsigned)made.verdict.code);
-        printf("| %.4f | %.4f | %.2f | %.2f |\n", best.proved, best.plain, best.proved / best.plain, best.proved / ordinary);
+        if (wish.csv)
+            print_csv("Apply", made.kind, &best);
+        else
+            print_row(&made, &best, ordinary);
         apply_case_free(&made);
     }
-    print_beside_admit(out, rounds);
+    if (!wish.csv)
+        print_beside_admit(out, wish.rounds);
     free(out);
     return 0;
 }

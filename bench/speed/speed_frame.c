@@ -31,7 +31,7 @@ static void print_table(const char *title, framed *proved, framed *plain, const 
     printf("|---|---:|---:|---:|---:|---:|---:|\n");
     for (size_t i = 0; i < large_files(); i++) {
         struct framing_task left = {proved, &large[i].file}, right = {plain, &large[i].file};
-        struct pair best = measure(perform, &left, &right, large[i].file.length, rounds);
+        struct times best = measure(perform, (struct sides){&left, &right, NULL}, large[i].file.length, rounds);
         ordinary = i == 0 ? best.proved : ordinary;
         printf("| %s | %zu | %zu ", large[i].kind, large[i].file.length, large[i].verdict.records);
         printf("| %.4f | %.4f | %.2f | %.2f |\n", best.proved, best.plain, best.proved / best.plain, best.proved / ordinary);

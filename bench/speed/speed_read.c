@@ -28,13 +28,13 @@ static uint64_t perform(void *context)
     return task->candidate->cell(made->cell.bytes, made->cell.length, task->work, task->work_length, answer, sizeof answer);
 }
 
-static struct pair measure_case(const struct read_case *made, unsigned rounds)
+static struct times measure_case(const struct read_case *made, unsigned rounds)
 {
     static const struct read_calls proved = {probe_read_cell, probe_read_both};
     size_t work_length = WORK_A_RECORD * made->records;
     uint8_t *work = grow(NULL, work_length, 1);
     struct task left = {&proved, made, work, work_length}, right = {&read_reader, made, work, work_length};
-    struct pair best = measure(perform, &left, &right, made->cell.length + made->update.length, rounds);
+    struct times best = measure(perform, (struct sides){&left, &right, NULL}, made->cell.length + made->update.length, rounds);
     free(work);
     return best;
 }
@@ -48,7 +48,7 @@ int main(int words, char **word)
     printf("|---|---:|---:|---:|---:|---:|---:|\n");
     for (size_t i = 0; i < large_cells(); i++) {
         struct read_case made = large_cell_make(i);
-        struct pair best = measure_case(&made, rounds);
+        struct times best = measure_case(&made, rounds);
         ordinary = i == 0 ? best.proved : ordinary;
         printf("| %s | %zu | %zu ", made.kind, made.cell.length + made.update.length, made.records);
         printf("| %.4f | %.4f | %.2f | %.2f |\n", best.proved, best.plain, best.proved / best.plain, best.proved / ordinary);

@@ -24,7 +24,7 @@ struct test {
     void (*run_large)(struct tally *tally, const void *candidate, size_t index);
 };
 
-/* A program's main: its words are [SEEDS [FIRST_SEED]]. Prints the counts of each kind and, as the last line, `N passed, M failed`. Returns the exit
+/* A program's main: its words are [SEEDS [FIRST_SEED [LARGE]]], where LARGE is how many of the large cases are taken. Prints the counts of each kind and, as the last line, `N passed, M failed`. Returns the exit
    status. */
 int run_test(const struct test *test, const void *candidate, int words, char **word);
 
