@@ -5,6 +5,11 @@
 
 #include <stdio.h>
 
+/* The name that it goes by: s57-judge where it is installed (build.sh). */
+#ifndef OWN_NAME
+#define OWN_NAME "judge"
+#endif
+
 /* All memory there is, lent to the loader. One byte more than a cell may have: a longer file is told from the longest cell without reading the rest. */
 static uint8_t cell[S57_LONGEST + 1], work[S57_WORK_MOST], area[S57_ANSWER];
 
@@ -12,11 +17,11 @@ int main(int words, char **word)
 {
     size_t length;
     if (words != 2) {
-        fprintf(stderr, "usage: judge CELL\n");
+        fprintf(stderr, "usage: " OWN_NAME " CELL\n");
         return HOST_FAILED;
     }
     if (!read_file(word[1], cell, sizeof cell, &length)) {
-        fprintf(stderr, "judge: %s can't be read\n", word[1]);
+        fprintf(stderr, OWN_NAME ": %s can't be read\n", word[1]);
         return HOST_FAILED;
     }
     uint32_t code = s57_judge(cell, length, work, sizeof work, area, sizeof area);

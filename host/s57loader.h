@@ -3,14 +3,19 @@
    date.
 
    It allocates nothing, keeps no state between calls, and opens no file: it works in the bytes that the host lends it. So it may be called from
-   several threads at once, each with areas of its own; several may judge the same cell's bytes. On the stack s57_judge and s57_admit want about 270 KB,
-   nearly all of it one table of fixed size; s57_apply wants about 940 KB, which are areas of fixed size too: in some of them it builds each record that the
-   update changes. A thread with a small stack of its own needs that much and some to spare. */
+   several threads at once, each with areas of its own; several may judge the same cell's bytes. S57_STACK_JUDGE, S57_STACK_ADMIT and S57_STACK_APPLY say
+   how much stack a call takes: a thread with a small stack of its own needs that much and more. */
 #ifndef S57LOADER_H
 #define S57LOADER_H
 
 #include <stddef.h>
 #include <stdint.h>
+
+/* The release. `make -C host version` writes it here, as the file VERSION has it. */
+#define S57LOADER_VERSION "1.0.0"
+#define S57LOADER_VERSION_MAJOR 1
+#define S57LOADER_VERSION_MINOR 0
+#define S57LOADER_VERSION_PATCH 0
 
 #ifdef __cplusplus
 extern "C" {
@@ -32,6 +37,15 @@ extern "C" {
 #define S57_WORK_FOR(file_len) ((size_t)(file_len) / S57_SHORTEST_RECORD * S57_WORK_A_RECORD)
 #define S57_WORK_MOST (S57_LONGEST / S57_SHORTEST_RECORD * S57_WORK_A_RECORD)
 #define S57_WORK_BOTH (2 * S57_WORK_MOST)
+
+/* What a call takes of the stack at most, below the function that makes it, whatever the files are; nearly all of it are areas of fixed size, in some of which
+   s57_apply builds each record that the update changes. It is what the archive's code comes to (host/stack.sh says it), 8 KB for memcpy and memset, which are
+   the C library's and may be looked for at their first call, and what is missing to whole pages of 4 KB. A thread's stack must have room besides for the
+   host's own functions above the call, and for what the thread library keeps there, which are a few KB: one of S57_STACK_APPLY + PTHREAD_STACK_MIN bytes
+   suffices where the thread's function does little else. bench/tests/stack.c makes each call with exactly this much. */
+#define S57_STACK_JUDGE 278528
+#define S57_STACK_ADMIT 278528
+#define S57_STACK_APPLY 942080
 
 /* ---- the answer */
 

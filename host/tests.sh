@@ -1,8 +1,9 @@
 #!/bin/bash
-# Builds the example hosts and looks at what they say of the sample cell and of broken copies of it, and at their exit status; then at what unit leaves in its
-# folder, where it takes a base and where it is offered updates: after refusals, on a full disk, and cut off by force at random moments and before each of
-# its steps; and at two folders that are offered files at random. The last line is 'N passed, M failed'; the status is 0 only where nothing failed. Wants what
-# host/Makefile wants, and on Debian installs make where it is missing.
+# Builds the example hosts and looks at what they say of the sample cell and of broken copies of it, and at their exit status; installs them with the header and
+# the archive, and builds a host with what is installed alone; counts the stack that the archive takes; then looks at what unit leaves in its folder, where it
+# takes a base and where it is offered updates: after refusals, on a full disk, and cut off by force at random moments and before each of its steps; and at two
+# folders that are offered files at random. The last line is 'N passed, M failed'; the status is 0 only where nothing failed. Wants what host/Makefile wants,
+# and on Debian installs make, and what host/tests/install.sh wants, where they are missing.
 set -u
 if ! cd "$(dirname "$0")/.." || ! . bench/count.sh || ! . bench/compiler.sh; then
     echo '0 passed, 1 failed'
@@ -40,12 +41,32 @@ says 0 "$copies/many.000: The chart is good. (code 0, file 0, record 0)" $judge 
 says 2 "judge: $copies/none.000 can't be read" $judge "$copies/none.000"
 says 2 'usage: judge CELL' $judge
 
-# ---- the sentences: those of docs/CODES.md, word for word, also of codes that no test here meets
+# ---- the sentences: host/codes.txt is their one place; docs/CODES.md has them word for word, and so have the programs, also those of codes that no test
+# here meets
 
-tr -d '\n' <host/common.c | sed 's/" *"//g' >"$copies/sentences"
+host/codes.sh table >"$copies/table"
+sed -n '/^| Code | It means | Do |$/,/^$/p' docs/CODES.md | grep '^| [0-9]' >"$copies/docs"
+check "docs/CODES.md has another table than 'host/codes.sh table' makes of host/codes.txt" diff "$copies/docs" "$copies/table"
 for code in {1..21}; do
-    check "host/common.c doesn't say what docs/CODES.md has for $code" grep -qF "\"$(sentence "$code")\"" "$copies/sentences"
+    for program in judge unit; do
+        check "target/host/$program doesn't say what docs/CODES.md has for $code" grep -qaF "$(sentence "$code")" "target/host/$program"
+    done
 done
+# a line that isn't whole is no code left out
+sed 's/^7|Twice|/7|/' host/codes.txt >"$copies/codes.txt" && cp host/codes.sh "$copies"
+says 1 'host/codes.txt: line 11: not a code, a name, what it means and what to do' "$copies/codes.sh" texts
+sed '/^7|/d' host/codes.txt >"$copies/codes.txt"
+says 1 'host/codes.txt: line 11: the next code is 7' "$copies/codes.sh" texts
+
+# ---- installed
+
+# shellcheck source=tests/install.sh
+. host/tests/install.sh
+
+# ---- the stack
+
+# shellcheck source=tests/stack.sh
+. host/tests/stack.sh
 
 # ---- unit
 

@@ -19,6 +19,11 @@
 #include <stdio.h>
 #include <string.h>
 
+/* The name that it goes by: s57-unit where it is installed (build.sh). */
+#ifndef OWN_NAME
+#define OWN_NAME "unit"
+#endif
+
 /* All memory there is, lent to the loader. One byte more than a file may have: a longer file is told from the longest one without reading the rest. */
 static uint8_t cell[S57_LONGEST + 1], update[S57_LONGEST + 1], out[S57_LONGEST], work[S57_WORK_BOTH], area[S57_ANSWER];
 
@@ -29,9 +34,9 @@ static int open_folder(const char *path, int (*opens)(const char *path))
 {
     int folder = opens(path);
     if (folder < 0 && errno == EWOULDBLOCK)
-        fprintf(stderr, "unit: %s is in use by another run of unit; try again when that has ended\n", path);
+        fprintf(stderr, OWN_NAME ": %s is in use by another run of " OWN_NAME "; try again when that has ended\n", path);
     else if (folder < 0)
-        fprintf(stderr, "unit: %s can't be opened as a folder: %s\n", path, strerror(errno));
+        fprintf(stderr, OWN_NAME ": %s can't be opened as a folder: %s\n", path, strerror(errno));
     return folder;
 }
 
@@ -41,9 +46,9 @@ static int fetch(int folder, const char *path, size_t *length)
     if (keep_read(folder, cell, sizeof cell, length))
         return 1;
     if (errno == ENOENT)
-        fprintf(stderr, "unit: %s has no chart; admit a base cell first\n", path);
+        fprintf(stderr, OWN_NAME ": %s has no chart; admit a base cell first\n", path);
     else
-        fprintf(stderr, "unit: the chart in %s can't be read: %s\n", path, strerror(errno));
+        fprintf(stderr, OWN_NAME ": the chart in %s can't be read: %s\n", path, strerror(errno));
     return 0;
 }
 
@@ -52,9 +57,9 @@ static int keep(int folder, const char *path, size_t length)
 {
     enum keep_end end = keep_replace(folder, out, length);
     if (end == KEEP_OLD)
-        fprintf(stderr, "unit: the chart can't be written into %s: %s; what was there before stays\n", path, strerror(errno));
+        fprintf(stderr, OWN_NAME ": the chart can't be written into %s: %s; what was there before stays\n", path, strerror(errno));
     if (end == KEEP_UNSURE)
-        fprintf(stderr, "unit: %s has the new chart, but it isn't sure to outlive a power cut: %s; look with unit show after the next start\n", path,
+        fprintf(stderr, OWN_NAME ": %s has the new chart, but it isn't sure to outlive a power cut: %s; look with " OWN_NAME " show after the next start\n", path,
                 strerror(errno));
     return end == KEEP_NEW;
 }
@@ -64,7 +69,7 @@ static int load(const char *file, uint8_t *bytes, size_t room, size_t *length)
 {
     int whole = read_file(file, bytes, room, length);
     if (!whole)
-        fprintf(stderr, "unit: %s can't be read\n", file);
+        fprintf(stderr, OWN_NAME ": %s can't be read\n", file);
     return whole;
 }
 
@@ -186,6 +191,6 @@ int main(int words, char **word)
         if (words >= 2 && fits(&commands[i], words - 2, word[1]))
             return commands[i].run(word + 2);
     for (size_t i = 0; i < COMMANDS; i++)
-        fprintf(stderr, "usage: unit %s %s\n", commands[i].name, commands[i].takes);
+        fprintf(stderr, "usage: " OWN_NAME " %s %s\n", commands[i].name, commands[i].takes);
     return HOST_FAILED;
 }
