@@ -8,6 +8,7 @@ use native.Mathlib.Omega.{arith}
 use lib.ListN.{length, getD}
 use lib.Dec.{eqb}
 use borrow.Author.Tests.{eqb-true}
+use Rattle.octets.proofs.ListLaws.{member-at}
 use Rattle.octets.specs.Number.{byteAt}
 use Rattle.octets.proofs.Cases.{true-or-false, eq-or-ne}
 use Rattle.iso8211.specs.Record.{endOf}
@@ -16,7 +17,7 @@ use Rattle.iso8211.specs.declared.file.Framed.the-variants.{Records}
 use Rattle.iso8211.proofs.Promise.{record-in, at-next}
 use Rattle.table.specs.Table.{table, rowOf, ATTV, ATTF, NATF, VRPC, SGCC, FFPC, FSPC}
 use Rattle.words.specs.Order.{sorted}
-use Rattle.words.proofs.OrderLaws.{member-at, sorted-in-order}
+use Rattle.words.proofs.OrderLaws.{sorted-in-order}
 use Rattle.attributes.specs.Attributes.{labelOf}
 use Rattle.fieldvalue.specs.Value.{isAttributes, isHigh}
 use Rattle.items.specs.Premises.{LaidOut, Identified}

@@ -1,7 +1,7 @@
 -- Laws of the first stages: the codes of reading in document 01's order, then Apply whole. Assumes nothing.
 use Prim.Native.Nat.{ℕ, _+_, _*_, _≤_, _<_}
 use mathlib.Core.List.{List}
-use mathlib.Core.Path.{_≡_, sym, ap, _∙_}
+use mathlib.Core.Path.{_≡_, refl, sym, ap, _∙_}
 use native.Mathlib.Omega.{arith}
 use lib.ListN.{length}
 use Rattle.octets.specs.Number.{byteAt}
@@ -15,6 +15,10 @@ use Rattle.reader.specs.declared.front.Front.{Front}
 use Rattle.reader.specs.declared.front.Front.the-variants.{Count, Refused}
 use Rattle.readboth.proofs.CallLaws.{few, front-opened, front-refused, worked-short, worked-on}
 use Rattle.readboth.proofs.BothLaws.{both-apart}
+use Rattle.bothonce.specs.Both.{BothRead, BothTold}
+use Rattle.bothonce.specs.declared.both.Both.{Both}
+use Rattle.bothonce.specs.declared.both.Both.the-variants.{All}
+use Rattle.bothonce.proofs.TogetherLaws.{both-fine}
 use Rattle.loader.specs.Admit.{areaBy, cellChart}
 use Rattle.loader.specs.Apply.{resultOf, applyOf, updatedBy, applyArea}
 use Rattle.loader.proofs.AdmitLaws.{area-kept}
@@ -82,7 +86,7 @@ module _ (cell : List ℕ) (n : ℕ) (update : List ℕ) (front : frontOf 1 cell
   pub second-kept : (w : ℕ) (out : List ℕ) → out ≡ applyArea cell update w out
   second-kept w out = apply-kept cell update w out a (second-refused w (length out)) (front-refused 2 update a (sym is ∙ told))
 
--- ---- apply
+-- ---- applied_again
 module _ (cell update : List ℕ) (f : Front) (is : f ≡ frontOf 1 cell) (a : Answer) (told : f ≡ Refused a) where
   pub first-refused : (w o : ℕ) → a ≡ applyOf cell update w o
   unfolding applyOf fronted
@@ -90,3 +94,25 @@ module _ (cell update : List ℕ) (f : Front) (is : f ≡ frontOf 1 cell) (a : A
 
   pub first-kept : (w : ℕ) (out : List ℕ) → out ≡ applyArea cell update w out
   first-kept w out = apply-kept cell update w out a (first-refused w (length out)) (front-refused 1 cell a (sym is ∙ told))
+
+-- ---- applied_once: of a cell and an update that one pass each read
+pub read-all : {cell update work : List ℕ} {n m : ℕ} (r : Both) → BothTold cell update work r → r ≡ All n m → BothRead cell n update m work
+read-all r told e = told .all _ _ e
+
+pub once-ready : {cell update work : List ℕ} {n m : ℕ} → BothRead cell n update m work → ((i : ℕ) → byteAt cell i < 256) → ((i : ℕ) → byteAt update i < 256)
+    → BothReady cell n update m work
+once-ready {cell} {update} {work} {n} {m} so old new =
+    applied-before cell n update m (so .first) (so .second) (bothFault cell n update m) refl (both-fine so) work old new (so .room) (so .words)
+
+-- the work area keeps its length while the files are read
+pub once-applied : {cell update work : List ℕ} {n m : ℕ} (w : ℕ) (out next : List ℕ) (a : Answer) → BothRead cell n update m work → length work ≡ w
+    → (a ≡ changeAnswer cell n update m (length out)) × (next ≡ areaBy a (resultOf cell n update m) out)
+    → (a ≡ applyOf cell update w (length out)) × (next ≡ applyArea cell update w out)
+once-applied {cell} {update} {work} {n} {m} w out next a so size told =
+    let room = so .room in
+    let is = applied-on cell n update m (so .first) (so .second) w (length out) a (omega arith) (bothFault cell n update m) refl (both-fine so) (told .0) in
+    (is, area-applied cell n update m (so .first) (so .second) w out next a is (told .1))
+
+pub apply-along : (cell update out : List ℕ) {next : List ℕ} {v w : ℕ} {a : Answer} → v ≡ w → (a ≡ applyOf cell update v (length out)) × (next ≡ applyArea cell update v out)
+    → (a ≡ applyOf cell update w (length out)) × (next ≡ applyArea cell update w out)
+apply-along cell update out e so = rw e at so

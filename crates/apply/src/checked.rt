@@ -4,7 +4,7 @@ ghost use lib.ListN.{length};
 ghost use Rattle.reader.specs.Reader.{frontOf};
 ghost use Rattle.loader.specs.Admit.{areaBy};
 ghost use Rattle.loader.specs.Apply.{resultOf, applyOf};
-use crate::amended::changed;
+use amending::changed;
 use answers::Answer;
 use answers::answer::answered;
 use answers::codes::WORK;

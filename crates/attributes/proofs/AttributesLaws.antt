@@ -8,17 +8,18 @@ use native.Mathlib.Omega.{arith}
 use lib.ListN.{length, take, drop, getD, set}
 use lib.Dec.{eqb}
 use borrow.Author.Tests.{eq-eqb, ne-eqb, not-true, not-false}
+use Rattle.octets.proofs.ListLaws.{part-byte, part-number, part-long}
+use Rattle.octets.specs.Lists.{isIn}
 use Rattle.octets.specs.Number.{byteAt}
 use Rattle.octets.specs.Premises.{Reads}
 use Rattle.entries.specs.Entries.{entryLen, entriesOf}
 use Rattle.entries.specs.Rules.{through}
 use Rattle.entries.proofs.WalkLaws.{walk-end, walk-more}
 use Rattle.headvalues.specs.Text.{textGood}
-use Rattle.words.specs.Order.{isIn}
 use Rattle.attributes.specs.Attributes.{attribute, labelOf, valueOf, isRemoval, valueGood, attributesFrom, attributesFault, metLabel, metAfter}
 use Rattle.attributes.specs.Premises.{Stamped, Upto}
 use Rattle.attributes.specs.Judged.{AttributesJudged}
-use Rattle.attributes.proofs.PartLaws.{part-byte, part-number, part-long, part-text, attribute-long}
+use Rattle.attributes.proofs.PartLaws.{part-text, attribute-long}
 use Rattle.attributes.proofs.StampLaws.{stamped-met, stamped-new, stamped-set, upto-set}
 
 and-false : (b : Bool) → (b && false) ≡ false

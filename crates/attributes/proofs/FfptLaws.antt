@@ -7,12 +7,13 @@ use native.Mathlib.Omega.{arith}
 use lib.ListN.{length, take, drop}
 use lib.Dec.{leb}
 use borrow.Author.Tests.{lt-leb, le-leb, not-true, not-false}
+use Rattle.octets.proofs.ListLaws.{part-byte, part-long}
 use Rattle.octets.specs.Number.{byteAt}
 use Rattle.entries.specs.Entries.{entryLen, entriesOf}
 use Rattle.entries.proofs.WalkLaws.{walk-end, walk-more}
 use Rattle.headvalues.specs.Text.{textGood}
 use Rattle.attributes.specs.Attributes.{pointer, rindGood, commentOf, ffptFrom, ffptFault}
-use Rattle.attributes.proofs.PartLaws.{part-byte, part-long, part-text, pointer-long}
+use Rattle.attributes.proofs.PartLaws.{part-text, pointer-long}
 
 -- ---- one entry: the n bytes at `at` of c
 module _ (c : List ℕ) (at n : ℕ) (long : 10 ≤ n) where

@@ -1,28 +1,18 @@
 -- An entry of a field read in its place: the entry of n bytes at `at` of the bytes c is take n (drop at c). Assumes nothing.
-use Prim.Native.Nat.{ℕ, zero, suc, _+_, _-_, _≤_, _<_}
+use Prim.Native.Nat.{ℕ, _+_, _-_, _≤_, _<_}
 use mathlib.Core.List.{List}
-use mathlib.Core.Path.{_≡_, refl, sym, _∙_}
-use native.Mathlib.Nat.{add-suc, add-assoc}
+use mathlib.Core.Path.{_≡_, sym, _∙_}
+use native.Mathlib.Nat.{add-assoc}
 use native.Mathlib.Omega.{arith}
 use lib.ListN.{length, take, drop, length-drop}
-use lib.Seq.{length-take-le, getD-take, getD-drop, ext-getD}
-use Rattle.octets.specs.Number.{byteAt, numAt}
+use lib.Seq.{length-take-le, ext-getD}
+use Rattle.octets.proofs.ListLaws.{part-byte, part-long}
+use Rattle.octets.specs.Number.{byteAt}
 use Rattle.entries.specs.declared.Shape.{Shape}
 use Rattle.entries.specs.Entries.{entryLen}
 use Rattle.entries.proofs.EntryLaws.{entry-least, entry-within, entry-texted}
 use Rattle.entries.proofs.TextLaws.{text-least}
 use Rattle.attributes.specs.Attributes.{attribute, pointer}
-
-pub part-byte : (c : List ℕ) (at n i : ℕ) → i < n → byteAt (take n (drop at c)) i ≡ byteAt c (at + i)
-part-byte c at n i h = rw (getD-take n (drop at c) i 0 h, getD-drop at c i 0)
-
-pub part-number : (c : List ℕ) (at n p k : ℕ) → p + k ≤ n → numAt (take n (drop at c)) p k ≡ numAt c (at + p) k
-unfolding numAt
-part-number c at n p zero h = refl
-part-number c at n p (suc k) h = rw (part-byte c at n p (omega arith), part-number c at n (suc p) k (omega arith), add-suc at p)
-
-pub part-long : (c : List ℕ) (at n : ℕ) → at + n ≤ length c → length (take n (drop at c)) ≡ n
-part-long c at n h = length-take-le n (drop at c) (rw length-drop (omega arith))
 
 -- the text behind the k fixed bytes, up to the closing 1F
 pub part-text : (c : List ℕ) (at n k : ℕ) → k + 1 ≤ n → at + n ≤ length c

@@ -8,8 +8,8 @@ use native.Mathlib.Omega.{arith}
 use lib.ListN.{length, getD, set, replicate}
 use lib.Seq.{getD-set-same, getD-set-other}
 use borrow.Author.Tests.{eq-eqb, ne-eqb}
+use Rattle.octets.specs.Lists.{isIn}
 use Rattle.octets.proofs.Cases.{eq-or-ne}
-use Rattle.words.specs.Order.{isIn}
 use Rattle.attributes.specs.Premises.{Stamped, Upto}
 
 -- ---- a table of zeros, before the first list

@@ -4,11 +4,11 @@ use mathlib.Core.Bool.{Bool, false, cond, _&&_, _||_}
 use mathlib.Core.List.{List, [], _∷_}
 use lib.ListN.{length, take, drop}
 use lib.Dec.{eqb, leb}
+use Rattle.octets.specs.Lists.{isIn}
 use Rattle.octets.specs.Number.{byteAt, numAt}
 use Rattle.entries.specs.Entries.{entriesOf}
 use Rattle.entries.specs.Rules.{through}
 use Rattle.entries.specs.declared.Shape.{Shape}
-use Rattle.words.specs.Order.{isIn}
 use Rattle.headvalues.specs.Text.{textGood}
 use Rattle.table.specs.Offsets.{ATVL, FFPT-RIND, FFPT-COMT}
 

@@ -3,10 +3,10 @@ use Prim.Native.Nat.{ℕ}
 use mathlib.Core.Bool.{true, false}
 use mathlib.Core.List.{List, [], _∷_}
 use mathlib.Core.Path.{_≡_, refl}
+use Rattle.octets.specs.Lists.{isIn}
 use Rattle.octets.specs.Number.{numAt}
 use Rattle.entries.specs.Entries.{textFrom, textLen, entryLen, entriesFrom, entriesOf}
 use Rattle.entries.specs.Rules.{through}
-use Rattle.words.specs.Order.{isIn}
 use Rattle.headvalues.specs.Text.{isText, textGood}
 use Rattle.attributes.specs.Attributes.{labelOf, valueOf, isRemoval, valueGood, attributesFrom, attributesFault, metLabel, metAfter, rindGood, commentOf, ffptFrom, ffptFault}
 

@@ -4,7 +4,7 @@ use mathlib.Core.List.{List}
 use mathlib.Core.Path.{_≡_}
 use lib.ListN.{getD}
 use lib.Dec.{eqb}
-use Rattle.words.specs.Order.{isIn}
+use Rattle.octets.specs.Lists.{isIn}
 
 -- a table of 65,536 numbers in which the labels that were met have this stamp, and no other label has
 pub record Stamped (t : List ℕ) (stamp : ℕ) (seen : List ℕ) : Type 0 where

@@ -7,6 +7,7 @@ use mathlib.Core.Path.{_≡_, refl, sym, ap, _∙_}
 use native.Mathlib.Omega.{arith}
 use lib.ListN.{length}
 use borrow.Author.Tests.{eq-eqb, ne-eqb, not-true}
+use Rattle.octets.proofs.Tests.{never}
 use Rattle.octets.proofs.Cases.{eq-or-ne}
 use Rattle.table.specs.Table.{rowOf, table, first}
 use Rattle.layout.proofs.KindLaws.{control-row, opens-group}
@@ -17,7 +18,7 @@ use Rattle.records.specs.Premises.{piecesAt}
 use Rattle.itemfields.specs.Views.{kindIn, laidIn, listIn}
 use Rattle.itemfields.proofs.ViewLaws.{list-seen}
 use Rattle.itemfields.proofs.JoinLaws.{step, absent}
-use Rattle.itemfields.proofs.ReadLaws.{Opened, never}
+use Rattle.itemfields.proofs.ReadLaws.{Opened}
 use Rattle.changes.specs.Told.{Controlled}
 
 -- what is no list does not come again behind itself

@@ -8,10 +8,10 @@ use native.Mathlib.Omega.{arith}
 use lib.ListN.{take, drop}
 use lib.Dec.{eqb}
 use borrow.Author.Tests.{eqb-true}
+use Rattle.octets.proofs.ListLaws.{part-byte, part-long}
 use Rattle.octets.specs.Number.{byteAt}
 use Rattle.octets.specs.Digits.{digitsFrom, numberAt}
 use Rattle.octets.proofs.Tests.{both}
-use Rattle.attributes.proofs.PartLaws.{part-byte, part-long}
 use Rattle.dates.specs.Date.{dateGood}
 use Rattle.dataset.specs.Dsid.{dsnmEnd, updnEnd, dsidEnds, dsidLaid, dsnmGood, dsidFault}
 use Rattle.dataset.proofs.DsidLaws.{dsid-laid}

@@ -6,13 +6,14 @@ use mathlib.Core.Logic.{⊎-elim}
 use mathlib.Core.Path.{_≡_, sym}
 use native.Mathlib.Omega.{arith}
 use lib.Dec.{eqb}
+use Rattle.octets.proofs.Tests.{or-right}
+use Rattle.octets.specs.Lists.{isIn}
 use Rattle.octets.proofs.Cases.{true-or-false}
 use Rattle.iso8211.specs.Record.{endOf}
 use Rattle.iso8211.specs.File.{recordAt}
-use Rattle.words.specs.Order.{isIn}
 use Rattle.names.specs.Names.{firstItem, itemsFrom, twiceFrom, firstTwice, twiceOf}
 use Rattle.items.specs.Item.{itemAt, itemName}
-use Rattle.held.proofs.CellLaws.{or-right, differs, once-more, self-in}
+use Rattle.held.proofs.CellLaws.{differs, once-more, self-in}
 use Rattle.merge.specs.Updated.{Differs, diff-none, diff-more, Apart, apart-none, apart-more}
 use Rattle.changes.specs.Change.{Amendment, amendmentAt, amendmentsFrom}
 

@@ -20,7 +20,7 @@ use Rattle.edits.proofs.CoordinatesLaws.{either-stays}
 use Rattle.changes.specs.Change.{Amendment, editOf}
 use Rattle.changes.specs.Amend.{kindsOf}
 use Rattle.changes.specs.Updated.{amended}
-use Rattle.changes.specs.Good.{VectorBrought, FeatureBrought, ObjectBrought}
+use Rattle.changes.specs.Good.{ObjectBrought}
 use Rattle.changes.specs.Good.ObjectBrought.{brought-vector, brought-feature}
 
 -- ---- the kinds of lists
@@ -79,8 +79,8 @@ inserted-object a (brought-feature b) may =
     })
 
 -- ---- a modify
-amended-vector : {aall nall : ℕ} (a : Amendment) {t : Item} → Vector aall nall t → VectorBrought aall nall (a .object) → a .object .version ≡ t .version + 1
-    → Vector aall nall (amended a t)
+amended-vector : {aall nall : ℕ} (a : Amendment) {t : Item} → Vector false aall nall t → Vector true aall nall (a .object) → a .object .version ≡ t .version + 1
+    → Vector false aall nall (amended a t)
 unfolding amended
 amended-vector a {t} v b e = record {
   class = v .class;
@@ -93,8 +93,8 @@ amended-vector a {t} v b e = record {
   either = either-stays (editOf a) (t .lists) (v .either);
 }
 
-amended-feature : {aall nall : ℕ} (a : Amendment) {t : Item} → Feature aall nall t → FeatureBrought aall nall (a .object) → a .object .version ≡ t .version + 1
-    → Feature aall nall (amended a t)
+amended-feature : {aall nall : ℕ} (a : Amendment) {t : Item} → Feature false aall nall t → Feature true aall nall (a .object) → a .object .version ≡ t .version + 1
+    → Feature false aall nall (amended a t)
 unfolding amended
 amended-feature a {t} v b e = record {
   class = v .class;

@@ -7,14 +7,14 @@ use native.Mathlib.Omega.{arith}
 use lib.ListN.{length, replicate, length-replicate}
 use lib.Dec.{eqb}
 use borrow.Author.Tests.{not-true, not-false, eq-eqb, ne-eqb, lt-ltb, le-ltb}
-use Rattle.octets.specs.Number.{byteAt}
+use Rattle.layout.specs.Premises.{LevelsIn}
 use Rattle.iso8211.specs.Record.{endOf}
 use Rattle.iso8211.specs.Field.{countAt, fieldAt}
 use Rattle.iso8211.specs.Premises.{RecordIn}
 use Rattle.iso8211.specs.File.{recordAt}
 use Rattle.iso8211.specs.declared.field.Field.{Field}
 use Rattle.iso8211.proofs.Promise.{fields-in, at-next, at-first}
-use Rattle.table.specs.Table.{kindOf}
+use Rattle.table.specs.Table.{kindOf, kindCount}
 use Rattle.attributes.specs.Premises.{Upto}
 use Rattle.attributes.proofs.StampLaws.{upto-zeros, upto-more}
 use Rattle.declarations.specs.Described.{describedOf}
@@ -33,19 +33,14 @@ use Rattle.chart.specs.Before.{RecordPassed}
 use Rattle.answers.specs.declared.refusal.Refusal.{Refusal}
 
 -- ---- what is known behind a record
--- is_feature and levels: field j as it is read
+-- is_feature: field 1 as it is read
 pub feature-is : (s : List ℕ) (at k : ℕ) (f : Field) → f ≡ fieldAt s at 1 → k ≡ kindOf (f .tag) → eqb k 10 ≡ isFeature s at
 unfolding isFeature
 feature-is s at k f e g = rw (g, e)
 
-pub levels-are : (s : List ℕ) (at i a b : ℕ) (f : Field) → f ≡ fieldAt s at 2 → i ≡ f .start → a ≡ byteAt s (i + 1) → b ≡ byteAt s (i + 2) → (a ≡ aallAt s at) × (b ≡ nallAt s at)
-unfolding aallAt nallAt
-levels-are s at i a b f e g x y =
-    (x ∙ ap (λ (k : ℕ). byteAt s (k + 1)) (g ∙ ap (λ (q : Field). q .start) e), y ∙ ap (λ (k : ℕ). byteAt s (k + 2)) (g ∙ ap (λ (q : Field). q .start) e))
-
 -- DSSI lies in the file with its levels
-pub levels-room : {s : List ℕ} {at stage : ℕ} (f : Field) → RecordPassed s at stage → stage ≡ 0 → f ≡ fieldAt s at 2 → f .start + 3 ≤ length s
-levels-room {s} {at} {stage} f p z e =
+pub levels-in : {s : List ℕ} {at stage : ℕ} → RecordPassed s at stage → stage ≡ 0 → LevelsIn s at
+levels-in {s} {at} {stage} p z =
     let d = p .dssi z in
     let three = d .0 in
     let long = d .1 in
@@ -53,7 +48,7 @@ levels-room {s} {at} {stage} f p z e =
     let size = content-length s at 2 (fields-in (p .known)) (omega arith) in
     let within = in2 .within in
     let fits = p .known .framed .fits in
-    rw e (omega arith)
+    record { inside = p .known; third = three; room = omega arith }
 
 module _ (update : Bool) (s : List ℕ) (at : ℕ) (st : State) (next : ℕ) (feature : Bool) (is : next ≡ nextStage update (st .stage) feature) (told : feature ≡ isFeature s at) where
   pub passed-first : (a b : ℕ) → st .stage ≡ 0 → a ≡ aallAt s at → b ≡ nallAt s at → record { stage = next; aall = a; nall = b } ≡ passedState update s at st
@@ -148,13 +143,13 @@ read-described update s n d r e h q =
     let none : describedOf s ≡ [] = sym e ∙ rw good in
     q ∙ rw none
 
-pub read-records : (update : Bool) (s : List ℕ) (n : ℕ) (d : Described) (r : Refusal) → marksOf d ≡ describedOf s → length (d .marks) ≡ 20 → not (d .good) ≡ false
+pub read-records : (update : Bool) (s : List ℕ) (n : ℕ) (d : Described) (r : Refusal) → marksOf d ≡ describedOf s → length (d .marks) ≡ kindCount → not (d .good) ≡ false
     → r ≡ recordsFault (n - 1) update (d .marks) s 1 (recordAt s 1) firstState → r ≡ readFault update s n
 unfolding readFault
-read-records update s n d r e twenty h q =
+read-records update s n d r e all h q =
     let good = not-false (d .good) h in
     let same : describedOf s ≡ d .marks = sym e ∙ rw good in
-    let some : eqb (length (d .marks)) 0 ≡ false = rw twenty in
+    let some : eqb (length (d .marks)) 0 ≡ false = rw all in
     q ∙ rw (same, some)
 
 -- a blank table

@@ -3,6 +3,7 @@ use Prim.Native.Nat.{ℕ, _≤_}
 use mathlib.Core.List.{List}
 use mathlib.Core.Path.{_≡_}
 use lib.ListN.{length}
+use Rattle.table.specs.Table.{kindCount}
 use Rattle.answers.specs.Codes.{mostBytes}
 use Rattle.iso8211.specs.Field.{countAt}
 use Rattle.iso8211.specs.Premises.{RecordIn}
@@ -21,6 +22,6 @@ pub record RecordPassed (s : List ℕ) (at stage : ℕ) : Type 0 where
 pub record BeforeRecords (s : List ℕ) (n : ℕ) (marks t : List ℕ) : Type 0 where
   pub framed : frameOf s ≡ Framed.Records n
   pub short : length s ≤ mostBytes
-  pub twenty : length marks ≡ 20
+  pub all : length marks ≡ kindCount
   pub wide : length t ≡ 65536
   pub blank : Upto t 0

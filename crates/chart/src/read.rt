@@ -4,18 +4,17 @@ ghost use mathlib.Core.Path.{_≡_};
 ghost use lib.ListN.{length, replicate};
 ghost use Rattle.iso8211.specs.File.{frameOf, recordAt};
 ghost use Rattle.chart.specs.Read.{nextStage, isFeature, passedState, firstState, recordsFault, readFault};
-ghost use Rattle.layout.specs.General.{aallAt, nallAt};
 use described::described;
 use fieldvalue::value::value_fault;
 use iso8211::field::field_at;
 use iso8211::field::head_of;
 use iso8211::field::record_end;
 use iso8211::file::Framed;
+use layout::general::levels_at;
 use layout::layout_fault;
 use octets::number::wide;
 use table::kind_of;
 use table::kinds;
-use table::offsets;
 ghost use Rattle.answers.specs.Codes.{mostBytes};
 ghost use Rattle.chart.specs.Before.{BeforeRecords, RecordPassed};
 use answers::Refusal;
@@ -55,20 +54,6 @@ fn is_feature(s: &[u8], at: usize, stage: usize) -> bool
     kind_of(f.tag) == kinds::FRID
 }
 
-// The levels of the record of DSID and DSSI.
-fn levels(s: &[u8], at: usize, stage: usize) -> State
-    requires { ⌜ RecordPassed (now s) at stage × (stage ≡ 0) ⌝ }
-    ensures { λ r. ⌜ (r .aall ≡ aallAt (now (s .entry)) at) × (r .nall ≡ nallAt (now (s .entry)) at) ⌝ }
-{
-    let f = field_at(s, at, head_of(s, at), 2);
-    let i = f.start;
-    State {
-        stage: 0,
-        aall: wide(s[i + offsets::DSSI_AALL]),
-        nall: wide(s[i + offsets::DSSI_NALL]),
-    }
-}
-
 // What is known behind the record at `at`.
 fn passed(s: &[u8], at: usize, update: bool, st: State) -> State
     requires { ⌜ RecordPassed (now s) at (st .stage) ⌝ }
@@ -77,11 +62,11 @@ fn passed(s: &[u8], at: usize, update: bool, st: State) -> State
     let stage = st.stage;
     let next = next_stage(update, stage, is_feature(s, at, stage));
     if stage == 0 {
-        let l = levels(s, at, stage);
+        let l = levels_at(s, at);
         return State {
             stage: next,
-            aall: l.aall,
-            nall: l.nall,
+            aall: wide(l.aall),
+            nall: wide(l.nall),
         };
     }
     State {

@@ -4,7 +4,7 @@ use mathlib.Core.Bool.{Bool, true, false, cond}
 use mathlib.Core.List.{List}
 use mathlib.Core.Logic.{_⊎_, ⊎-elim}
 use mathlib.Core.Path.{_≡_, sym, ap, _∙_}
-use native.Mathlib.Nat.{zero-add}
+use native.Mathlib.Nat.{zero-add, add-zero, suc-add}
 use native.Mathlib.Omega.{arith}
 use lib.Dec.{eqb}
 use lib.ListN.{length}
@@ -15,7 +15,7 @@ use Rattle.iso8211.specs.Field.{countAt, fieldAt}
 use Rattle.iso8211.specs.Premises.{FramedAt}
 use Rattle.iso8211.specs.declared.field.Field.{Field}
 use Rattle.iso8211.specs.File.{recordAt}
-use Rattle.iso8211.proofs.Promise.{at-start, at-on}
+use Rattle.iso8211.proofs.Promise.{at-start, at-on, at-next}
 use Rattle.values.specs.Class.{isGeo, isMeta, isCollection}
 use Rattle.items.specs.Premises.{Identified, Featured}
 use Rattle.items.specs.Identity.{rcnmAt, objlAt}
@@ -45,7 +45,7 @@ pub tally-same : {a b c d e f g h i j k l : ℕ} → a ≡ g → b ≡ h → c �
 tally-same p q r s t u = rw (p, q, r, s, t, u)
 
 -- one record, and those behind it
-records-next : (t : Tally) (n : ℕ) (s : List ℕ) (at : ℕ) → withRecords t (suc n) s at ≡ withRecords (withRecord t s at) n s (endOf s at)
+pub records-next : (t : Tally) (n : ℕ) (s : List ℕ) (at : ℕ) → withRecords t (suc n) s at ≡ withRecords (withRecord t s at) n s (endOf s at)
 unfolding withRecords withRecord withVector withFeature countOf ofName ofClass
 records-next t n s at =
     ⊎-elim (λ (h : eqb (rcnmAt s at) 100 ≡ true).
@@ -55,9 +55,28 @@ records-next t n s at =
     rw h (tally-same (omega arith) (omega arith) (omega arith) (omega arith) (omega arith) (omega arith)))
     (true-or-false (eqb (rcnmAt s at) 100))
 
-records-none : (t : Tally) (s : List ℕ) (at : ℕ) → withRecords t 0 s at ≡ t
+pub records-none : (t : Tally) (s : List ℕ) (at : ℕ) → withRecords t 0 s at ≡ t
 unfolding withRecords countOf
 records-none t s at = tally-same (omega arith) (omega arith) (omega arith) (omega arith) (omega arith) (omega arith)
+
+-- n records, and the one behind them
+pub records-grow : (n : ℕ) (t : Tally) (s : List ℕ) (k at : ℕ) → at ≡ recordAt s k → withRecords t (n + 1) s at ≡ withRecord (withRecords t n s at) s (recordAt s (k + n))
+records-grow zero t s k at e = records-next t 0 s at ∙ records-none (withRecord t s at) s (endOf s at) ∙ rw (records-none t s at, add-zero k, ← e)
+records-grow (suc n) t s k at e =
+    let place : k + 1 + n ≡ k + suc n = omega arith in
+    rw (suc-add n 1, records-next t (n + 1) s at, records-grow n (withRecord t s at) s (k + 1) (endOf s at) (at-next s k at e), place, records-next t n s at)
+
+-- what is counted of n records is no more than they
+pub records-most : (n : ℕ) (s : List ℕ) (at : ℕ) → AtMost n (withRecords (record { meta = 0; geo = 0; collection = 0; isolated = 0; connected = 0; edges = 0 }) n s at)
+unfolding withRecords
+records-most n s at = record {
+  meta-few = omega (arith, count-few (ofClass isMeta) n s at);
+  geo-few = omega (arith, count-few (ofClass isGeo) n s at);
+  collection-few = omega (arith, count-few (ofClass isCollection) n s at);
+  isolated-few = omega (arith, count-few (ofName 110) n s at);
+  connected-few = omega (arith, count-few (ofName 120) n s at);
+  edges-few = omega (arith, count-few (ofName 130) n s at);
+}
 
 -- ---- tally_of: one law for each way through a turn
 pub tally-start : (s : List ℕ) (n at : ℕ) → at ≡ recordAt s 3

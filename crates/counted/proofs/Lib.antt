@@ -1,3 +1,2 @@
 -- The laws of `counted`.
 pub mod CountsLaws
-pub mod ComfLaws

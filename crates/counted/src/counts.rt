@@ -159,13 +159,21 @@ fn tally_good(s: &[u8], p: usize, t: Tally) -> bool
     vectors_good(s, p, t)
 }
 
-// Whether DSSI counts the records of a cell of n records truly.
-pub fn counts_good(s: &[u8], n: usize) -> bool
-    requires { ⌜ Readable false (now s) n × DssiThere (now s) ⌝ }
+// Whether DSSI counts the records of a cell of n records truly, whose tally is t.
+pub fn tally_counts(s: &[u8], n: usize, t: Tally) -> bool
+    requires { ⌜ Readable false (now s) n × DssiThere (now s) × (t ≡ tallyOf (now s) n) ⌝ }
     ensures { λ r. ⌜ r ≡ countsGood (now (s .entry)) n ⌝ }
 {
     let at = record_end(s, 0);
     let f = field_at(s, at, head_of(s, at), 2);
     let start = f.start;
-    tally_good(s, start, tally_of(s, n))
+    tally_good(s, start, t)
+}
+
+// The same, the records being tallied here.
+pub fn counts_good(s: &[u8], n: usize) -> bool
+    requires { ⌜ Readable false (now s) n × DssiThere (now s) ⌝ }
+    ensures { λ r. ⌜ r ≡ countsGood (now (s .entry)) n ⌝ }
+{
+    tally_counts(s, n, tally_of(s, n))
 }

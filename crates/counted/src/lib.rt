@@ -1,10 +1,6 @@
-// The counts that DSSI gives against those of the records (`counts_good`), how a record is counted
-// (`add_vector`, `add_feature`), and COMF (`comf_of`).
-pub mod comf;
+// The counts that DSSI gives against those of the records (`counts_good`), and how a record is counted
+// (`add_vector`, `add_feature`).
 pub mod counts;
-
-// COMF of a cell of n records.
-pub use comf::comf_of;
 
 // The tally with a vector of this RCNM.
 pub use counts::add_vector;
@@ -14,3 +10,6 @@ pub use counts::add_feature;
 
 // Whether DSSI counts the records of a cell of n records truly.
 pub use counts::counts_good;
+
+// The same, from their tally.
+pub use counts::tally_counts;

@@ -18,8 +18,9 @@ use Rattle.fieldparts.specs.declared.descriptive.Parts.{Parts}
 use Rattle.iso8211.specs.declared.field.Field.{Field}
 use Rattle.formats.specs.declared.Formats.{Formats}
 use Rattle.table.specs.Text.{bytes}
-use Rattle.table.specs.Table.{rowOf, kindOf}
+use Rattle.table.specs.Table.{rowOf, kindOf, first}
 use Rattle.declarations.specs.Described.{fieldBytes, labelsIn, formatsIn, sameFormats, describes, none, describedFrom, describedOf}
+use Rattle.declarations.specs.Premises.{sameTexts}
 
 -- ---- formats_same
 -- by what the code wrote out
@@ -45,25 +46,28 @@ module _ (f : List ℕ) (from to : ℕ) (b : List ℕ) (r : Formats) (low : from
   formats-judged t x same table is =
       rw (formats-by (take (to - from) (drop from f)) b r e, part-length, lt-ltb 0 (r .end) (omega arith), eq-eqb (r .end) (to - from) same, ← table) is
 
+-- ---- same_texts
+module _ (f : List ℕ) (p : Parts) (labels formats : List ℕ) (r : Bool) (is : r ≡ sameList (take (p .labels - (p .name + 1)) (drop (p .name + 1) f)) labels) where
+  pub labels-other : not r ≡ true → false ≡ sameTexts f p labels formats
+  unfolding sameTexts
+  labels-other h = rw (told-no r _ is h)
+
+  pub formats-left : (x : Bool) → not r ≡ false → x ≡ sameFormats (take (length f - 1 - (p .labels + 1)) (drop (p .labels + 1) f)) formats → x ≡ sameTexts f p labels formats
+  unfolding sameTexts
+  formats-left x h so = rw (told-yes r _ is h) so
+
 -- ---- describes
 describes-by : (k : ℕ) (f : List ℕ) (p : Parts) → p ≡ partsOf f
-    → describes k f ≡ (ltb 0 (p .name)
-    && (sameList (take (p .labels - (p .name + 1)) (drop (p .name + 1) f)) (bytes (rowOf k .labels))
-    && sameFormats (take (length f - 1 - (p .labels + 1)) (drop (p .labels + 1) f)) (bytes (rowOf k .formats))))
-unfolding describes labelsIn formatsIn
+    → describes k f ≡ (ltb 0 (p .name) && sameTexts f p (bytes (rowOf k .labels)) (bytes (rowOf k .formats)))
+unfolding describes labelsIn formatsIn sameTexts
 describes-by k f p e = rw (← e)
 
 pub parts-none : (k : ℕ) (f : List ℕ) (p : Parts) → p ≡ partsOf f → p .name ≡ 0 → false ≡ describes k f
 parts-none k f p e z = rw (describes-by k f p e, z)
 
-module _ (k : ℕ) (f : List ℕ) (p : Parts) (r : Bool) (e : p ≡ partsOf f) (some : p .name ≡ 0 → ⊥)
-    (is : r ≡ sameList (take (p .labels - (p .name + 1)) (drop (p .name + 1) f)) (bytes (rowOf k .labels))) where
-  pub labels-other : not r ≡ true → false ≡ describes k f
-  labels-other h = rw (describes-by k f p e, lt-ltb 0 (p .name) (omega arith), told-no r _ is h)
-
-  pub formats-left : (x : Bool) → not r ≡ false → x ≡ sameFormats (take (length f - 1 - (p .labels + 1)) (drop (p .labels + 1) f)) (bytes (rowOf k .formats))
-      → x ≡ describes k f
-  formats-left x h so = rw (describes-by k f p e, lt-ltb 0 (p .name) (omega arith), told-yes r _ is h) so
+pub row-left : (k : ℕ) (f : List ℕ) (p : Parts) (x : Bool) → p ≡ partsOf f → (p .name ≡ 0 → ⊥)
+    → x ≡ sameTexts f p (bytes (rowOf k .labels)) (bytes (rowOf k .formats)) → x ≡ describes k f
+row-left k f p x e some so = rw (describes-by k f p e, lt-ltb 0 (p .name) (omega arith)) so
 
 -- ---- describes_at
 pub describes-part : (k : ℕ) (s : List ℕ) (f : Field) (r : Bool) → r ≡ describes k (take (f .start + f .length - f .start) (drop (f .start) s))
@@ -76,12 +80,12 @@ field-room s j n f h count less e = let within = h .fields j (omega arith) .with
 
 -- ---- rest: the answer is that from field j on
 from-no : (n : ℕ) (s : List ℕ) (j : ℕ) (marks : List ℕ) (f : Field) (k : ℕ) → f ≡ fieldAt s 0 j → k ≡ kindOf (f .tag)
-    → (ltb k 18 && (eqb (getD marks k 0) 0 && describes k (fieldBytes s f))) ≡ false → describedFrom (suc n) s j marks ≡ []
+    → (ltb k first && (eqb (getD marks k 0) 0 && describes k (fieldBytes s f))) ≡ false → describedFrom (suc n) s j marks ≡ []
 unfolding describedFrom
 from-no n s j marks f k e is h = rw (← e, ← is, h)
 
 from-on : (n : ℕ) (s : List ℕ) (j : ℕ) (marks : List ℕ) (f : Field) (k : ℕ) → f ≡ fieldAt s 0 j → k ≡ kindOf (f .tag)
-    → (ltb k 18 && (eqb (getD marks k 0) 0 && describes k (fieldBytes s f))) ≡ true
+    → (ltb k first && (eqb (getD marks k 0) 0 && describes k (fieldBytes s f))) ≡ true
     → describedFrom (suc n) s j marks ≡ describedFrom n s (j + 1) (set marks k 1)
 unfolding describedFrom
 from-on n s j marks f k e is h = rw (← e, ← is, h)
@@ -91,23 +95,23 @@ module _ (s all : List ℕ) (j n : ℕ) (marks : List ℕ) (f : Field) (k : ℕ)
   left : countAt s 0 - j ≡ suc (countAt s 0 - (j + 1))
   left = omega arith
 
-  stops : (x : List ℕ) → x ≡ [] → (ltb k 18 && (eqb (getD marks k 0) 0 && describes k (fieldBytes s f))) ≡ false → x ≡ all
+  stops : (x : List ℕ) → x ≡ [] → (ltb k first && (eqb (getD marks k 0) 0 && describes k (fieldBytes s f))) ≡ false → x ≡ all
   stops x empty h = rw (empty, so, left) (sym (from-no (countAt s 0 - (j + 1)) s j marks f k e is h))
 
-  pub turn-unknown : (x : List ℕ) → x ≡ [] → 18 ≤ k → x ≡ all
-  turn-unknown x empty h = stops x empty (rw (le-ltb k 18 h))
+  pub turn-unknown : (x : List ℕ) → x ≡ [] → first ≤ k → x ≡ all
+  turn-unknown x empty h = stops x empty (rw (le-ltb k first h))
 
-  pub turn-twice : (x : List ℕ) → x ≡ [] → k < 18 → (getD marks k 0 ≡ 0 → ⊥) → x ≡ all
-  turn-twice x empty h again = stops x empty (rw (lt-ltb k 18 h, ne-eqb (getD marks k 0) 0 again))
+  pub turn-twice : (x : List ℕ) → x ≡ [] → k < first → (getD marks k 0 ≡ 0 → ⊥) → x ≡ all
+  turn-twice x empty h again = stops x empty (rw (lt-ltb k first h, ne-eqb (getD marks k 0) 0 again))
 
-  module _ (r : Bool) (known : k < 18) (fresh : getD marks k 0 ≡ 0) (judged : r ≡ describes k (fieldBytes s f)) where
+  module _ (r : Bool) (known : k < first) (fresh : getD marks k 0 ≡ 0) (judged : r ≡ describes k (fieldBytes s f)) where
     pub turn-other : (x : List ℕ) → x ≡ [] → not r ≡ true → x ≡ all
-    turn-other x empty h = stops x empty (rw (lt-ltb k 18 known, eq-eqb (getD marks k 0) 0 fresh) (told-no r _ judged h))
+    turn-other x empty h = stops x empty (rw (lt-ltb k first known, eq-eqb (getD marks k 0) 0 fresh) (told-no r _ judged h))
 
     pub turn-on : not r ≡ false → all ≡ describedFrom (countAt s 0 - (j + 1)) s (j + 1) (set marks k 1)
     turn-on h =
         rw (so, left)
-        (from-on (countAt s 0 - (j + 1)) s j marks f k e is (rw (lt-ltb k 18 known, eq-eqb (getD marks k 0) 0 fresh) (told-yes r _ judged h)))
+        (from-on (countAt s 0 - (j + 1)) s j marks f k e is (rw (lt-ltb k first known, eq-eqb (getD marks k 0) 0 fresh) (told-yes r _ judged h)))
 
 pub turn-end : (s all : List ℕ) (j n : ℕ) (marks : List ℕ) → all ≡ describedFrom (countAt s 0 - j) s j marks → n ≡ countAt s 0 → n ≤ j → marks ≡ all
 unfolding describedFrom
@@ -130,7 +134,7 @@ module _ (s x : List ℕ) (n : ℕ) (count : n ≡ countAt s 0) where
       one-other empty h =
           rw (← count, ← e, ← e′, le-leb 2 n enough, eq-eqb (zeroth .tag) 808464432 is, ne-eqb (one .tag) 808464433 h) empty
 
-      module _ (r : Bool) (is′ : one .tag ≡ 808464433) (judged : r ≡ describes 18 (fieldBytes s one)) where
+      module _ (r : Bool) (is′ : one .tag ≡ 808464433) (judged : r ≡ describes first (fieldBytes s one)) where
         pub one-wrong : x ≡ [] → not r ≡ true → x ≡ describedOf s
         unfolding describedOf
         one-wrong empty h =
@@ -140,7 +144,3 @@ module _ (s x : List ℕ) (n : ℕ) (count : n ≡ countAt s 0) where
         unfolding describedOf
         rest-left h so =
             rw (le-leb 2 (countAt s 0) (omega arith), ← e, ← e′, eq-eqb (zeroth .tag) 808464432 is, eq-eqb (one .tag) 808464433 is′, told-yes r _ judged h) so
-
--- ---- the kinds that are no listed one
-pub nine : (k : ℕ) → k < 10 → 9 ≤ k → k ≡ 9
-nine k high low = omega arith

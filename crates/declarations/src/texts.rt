@@ -1,103 +1,101 @@
-// The table's labels and formats of each kind.
+// The table's labels and formats of each kind, side by side, and a field of record 0 against them.
 ghost use mathlib.Core.Path.{_≡_};
-ghost use Prim.Native.Nat.{_-_, _≤_, _<_};
+ghost use Prim.Native.Nat.{_-_, _≤_};
 ghost use lib.ListN.{length, take, drop};
-ghost use Rattle.fieldparts.specs.Same.{sameList};
-ghost use Rattle.formats.specs.Formats.{writtenAt};
-ghost use Rattle.formats.specs.Premises.{formsOf};
+ghost use Rattle.fieldparts.specs.PartsPremises.{Within};
 ghost use Rattle.table.specs.Text.{bytes};
-ghost use Rattle.table.specs.Table.{rowOf};
+ghost use Rattle.table.specs.Table.{rowOf, VRID};
+ghost use Rattle.declarations.specs.Described.{sameFormats};
+ghost use Rattle.declarations.specs.Premises.{sameTexts};
+use fieldparts::descriptive::Parts;
 use fieldparts::descriptive::same_bytes;
-use formats::Formats;
+use formats::same_formats;
 use formats::write_out;
 use table::kinds;
 
-// Whether the bytes from `from` to `to` are the labels of kind k, a field of the data set's records or
-// of a vector.
-fn vector_labels(field: &[u8], from: usize, to: usize, k: usize) -> bool
-    requires { ⌜ (from ≤ to) × (to ≤ length (now field)) × (k < 10) ⌝ }
-    ensures { λ r. ⌜ r ≡ sameList (take (to - from) (drop from (now (field .entry)))) (bytes (rowOf k .labels)) ⌝ }
-{
-    match k {
-        kinds::DSID => same_bytes(
-            field,
-            from,
-            to,
-            b"RCNM!RCID!EXPP!INTU!DSNM!EDTN!UPDN!UADT!ISDT!STED!PRSP!PSDN!PRED!PROF!AGEN!COMT",
-        ),
-        kinds::DSSI => same_bytes(
-            field,
-            from,
-            to,
-            b"DSTR!AALL!NALL!NOMR!NOCR!NOGR!NOLR!NOIN!NOCN!NOED!NOFA",
-        ),
-        kinds::DSPM => same_bytes(
-            field,
-            from,
-            to,
-            b"RCNM!RCID!HDAT!VDAT!SDAT!CSCL!DUNI!HUNI!PUNI!COUN!COMF!SOMF!COMT",
-        ),
-        kinds::VRID => same_bytes(field, from, to, b"RCNM!RCID!RVER!RUIN"),
-        kinds::ATTV => same_bytes(field, from, to, b"*ATTL!ATVL"),
-        kinds::VRPC => same_bytes(field, from, to, b"VPUI!VPIX!NVPT"),
-        kinds::VRPT => same_bytes(field, from, to, b"*NAME!ORNT!USAG!TOPI!MASK"),
-        kinds::SGCC => same_bytes(field, from, to, b"CCUI!CCIX!CCNC"),
-        kinds::SG2D => same_bytes(field, from, to, b"*YCOO!XCOO"),
-        _ => same_bytes(field, from, to, b"*YCOO!XCOO!VE3D"),
-    }
-}
-
-// The same for a field of a feature; past the table, for 0001, which has no labels.
-fn feature_labels(field: &[u8], from: usize, to: usize, k: usize) -> bool
-    requires { ⌜ (from ≤ to) × (to ≤ length (now field)) × (10 ≤ k) ⌝ }
-    ensures { λ r. ⌜ r ≡ sameList (take (to - from) (drop from (now (field .entry)))) (bytes (rowOf k .labels)) ⌝ }
-{
-    match k {
-        kinds::FRID => same_bytes(field, from, to, b"RCNM!RCID!PRIM!GRUP!OBJL!RVER!RUIN"),
-        kinds::FOID => same_bytes(field, from, to, b"AGEN!FIDN!FIDS"),
-        kinds::ATTF => same_bytes(field, from, to, b"*ATTL!ATVL"),
-        kinds::NATF => same_bytes(field, from, to, b"*ATTL!ATVL"),
-        kinds::FFPC => same_bytes(field, from, to, b"FFUI!FFIX!NFPT"),
-        kinds::FFPT => same_bytes(field, from, to, b"*LNAM!RIND!COMT"),
-        kinds::FSPC => same_bytes(field, from, to, b"FSUI!FSIX!NSPT"),
-        kinds::FSPT => same_bytes(field, from, to, b"*NAME!ORNT!USAG!MASK"),
-        _ => same_bytes(field, from, to, b""),
-    }
-}
-
-pub fn labels_same(field: &[u8], from: usize, to: usize, k: usize) -> bool
+// Whether the bytes from `from` to `to` are a format list and nothing after, and written out the same as
+// `formats`.
+fn formats_same(field: &[u8], from: usize, to: usize, formats: &[u8]) -> bool
     requires { ⌜ (from ≤ to) × (to ≤ length (now field)) ⌝ }
-    ensures { λ r. ⌜ r ≡ sameList (take (to - from) (drop from (now (field .entry)))) (bytes (rowOf k .labels)) ⌝ }
+    ensures { λ r. ⌜ r ≡ sameFormats (take (to - from) (drop from (now (field .entry)))) (now (formats .entry)) ⌝ }
 {
-    if k < kinds::FRID {
-        return vector_labels(field, from, to, k);
+    let found = write_out(&field[from..to], 0);
+    if found.end == 0 {
+        return false;
     }
-    feature_labels(field, from, to, k)
+    if found.end != to - from {
+        return false;
+    }
+    same_formats(found, write_out(formats, 0))
 }
 
-// The formats of kind k, written out; past the table, those of 0001.
-pub fn formats_of(k: usize) -> Formats
-    ensures { λ r. ⌜ formsOf r ≡ writtenAt (bytes (rowOf k .formats)) 0 ⌝ }
+// Whether a field of these parts has these labels, and formats that written out are the same as these.
+fn same_texts(field: &[u8], p: Parts, labels: &[u8], formats: &[u8]) -> bool
+    requires { ⌜ Within (now field) p ⌝ }
+    ensures { λ r. ⌜ r ≡ sameTexts (now (field .entry)) p (now (labels .entry)) (now (formats .entry)) ⌝ }
+{
+    let name = p.name;
+    let end = p.labels;
+    if !same_bytes(field, name + 1, end, labels) {
+        return false;
+    }
+    formats_same(field, end + 1, field.len() - 1, formats)
+}
+
+// The same for what the table has of kind k, a field of a vector or of a feature; past the table, of 0001.
+fn item_row(field: &[u8], p: Parts, k: usize) -> bool
+    requires { ⌜ Within (now field) p × (VRID ≤ k) ⌝ }
+    ensures { λ r. ⌜ r ≡ sameTexts (now (field .entry)) p (bytes (rowOf k .labels)) (bytes (rowOf k .formats)) ⌝ }
 {
     match k {
-        kinds::DSID => write_out(b"(b11,b14,2b11,3A,2A(8),R(4),b11,2A,b11,b12,A)", 0),
-        kinds::DSSI => write_out(b"(3b11,8b14)", 0),
-        kinds::DSPM => write_out(b"(b11,b14,3b11,b14,4b11,2b14,A)", 0),
-        kinds::VRID => write_out(b"(b11,b14,b12,b11)", 0),
-        kinds::ATTV => write_out(b"(b12,A)", 0),
-        kinds::VRPC => write_out(b"(b11,2b12)", 0),
-        kinds::VRPT => write_out(b"(B(40),4b11)", 0),
-        kinds::SGCC => write_out(b"(b11,2b12)", 0),
-        kinds::SG2D => write_out(b"(2b24)", 0),
-        kinds::SG3D => write_out(b"(3b24)", 0),
-        kinds::FRID => write_out(b"(b11,b14,2b11,2b12,b11)", 0),
-        kinds::FOID => write_out(b"(b12,b14,b12)", 0),
-        kinds::ATTF => write_out(b"(b12,A)", 0),
-        kinds::NATF => write_out(b"(b12,A)", 0),
-        kinds::FFPC => write_out(b"(b11,2b12)", 0),
-        kinds::FFPT => write_out(b"(B(64),b11,A)", 0),
-        kinds::FSPC => write_out(b"(b11,2b12)", 0),
-        kinds::FSPT => write_out(b"(B(40),3b11)", 0),
-        _ => write_out(b"(b12)", 0),
+        kinds::VRID => same_texts(field, p, b"RCNM!RCID!RVER!RUIN", b"(b11,b14,b12,b11)"),
+        kinds::ATTV => same_texts(field, p, b"*ATTL!ATVL", b"(b12,A)"),
+        kinds::VRPC => same_texts(field, p, b"VPUI!VPIX!NVPT", b"(b11,2b12)"),
+        kinds::VRPT => same_texts(field, p, b"*NAME!ORNT!USAG!TOPI!MASK", b"(B(40),4b11)"),
+        kinds::SGCC => same_texts(field, p, b"CCUI!CCIX!CCNC", b"(b11,2b12)"),
+        kinds::SG2D => same_texts(field, p, b"*YCOO!XCOO", b"(2b24)"),
+        kinds::SG3D => same_texts(field, p, b"*YCOO!XCOO!VE3D", b"(3b24)"),
+        kinds::FRID => same_texts(
+            field,
+            p,
+            b"RCNM!RCID!PRIM!GRUP!OBJL!RVER!RUIN",
+            b"(b11,b14,2b11,2b12,b11)",
+        ),
+        kinds::FOID => same_texts(field, p, b"AGEN!FIDN!FIDS", b"(b12,b14,b12)"),
+        kinds::ATTF => same_texts(field, p, b"*ATTL!ATVL", b"(b12,A)"),
+        kinds::NATF => same_texts(field, p, b"*ATTL!ATVL", b"(b12,A)"),
+        kinds::FFPC => same_texts(field, p, b"FFUI!FFIX!NFPT", b"(b11,2b12)"),
+        kinds::FFPT => same_texts(field, p, b"*LNAM!RIND!COMT", b"(B(64),b11,A)"),
+        kinds::FSPC => same_texts(field, p, b"FSUI!FSIX!NSPT", b"(b11,2b12)"),
+        kinds::FSPT => same_texts(field, p, b"*NAME!ORNT!USAG!MASK", b"(B(40),3b11)"),
+        _ => same_texts(field, p, b"", b"(b12)"),
+    }
+}
+
+// The same for every kind.
+pub fn same_row(field: &[u8], p: Parts, k: usize) -> bool
+    requires { ⌜ Within (now field) p ⌝ }
+    ensures { λ r. ⌜ r ≡ sameTexts (now (field .entry)) p (bytes (rowOf k .labels)) (bytes (rowOf k .formats)) ⌝ }
+{
+    match k {
+        kinds::DSID => same_texts(
+            field,
+            p,
+            b"RCNM!RCID!EXPP!INTU!DSNM!EDTN!UPDN!UADT!ISDT!STED!PRSP!PSDN!PRED!PROF!AGEN!COMT",
+            b"(b11,b14,2b11,3A,2A(8),R(4),b11,2A,b11,b12,A)",
+        ),
+        kinds::DSSI => same_texts(
+            field,
+            p,
+            b"DSTR!AALL!NALL!NOMR!NOCR!NOGR!NOLR!NOIN!NOCN!NOED!NOFA",
+            b"(3b11,8b14)",
+        ),
+        kinds::DSPM => same_texts(
+            field,
+            p,
+            b"RCNM!RCID!HDAT!VDAT!SDAT!CSCL!DUNI!HUNI!PUNI!COUN!COMF!SOMF!COMT",
+            b"(b11,b14,3b11,b14,4b11,2b14,A)",
+        ),
+        _ => item_row(field, p, k),
     }
 }

@@ -7,12 +7,13 @@ use native.Mathlib.Omega.{arith}
 use lib.ListN.{length, length-append}
 use lib.Dec.{ltb, lit<}
 use borrow.Author.Tests.{ltb-true}
+use Rattle.octets.proofs.ListLaws.{allBelow, all-below}
 use Rattle.octets.specs.Number.{byteAt, bytesOf}
 use Rattle.octets.specs.Digits.{digitsOf, fewest}
 use Rattle.octets.proofs.DigitsLaws.{fewest-most}
 use Rattle.entries.specs.Rules.{allOf}
 use Rattle.table.specs.Text.{bytes}
-use Rattle.table.specs.Table.{rowOf, table, asNumber, tagOf, first, DSID, DSSI, DSPM, VRID, FRID, FOID}
+use Rattle.table.specs.Table.{rowOf, table, asNumber, tagOf, kindCount, DSID, DSSI, DSPM, VRID, FRID, FOID, first}
 use Rattle.counted.specs.declared.counts.Tally.{Tally}
 use Rattle.records.specs.Pieces.{Piece}
 use Rattle.records.specs.Written.{tagBytes, pieceLength, bodyOf, rowsFor, longest, farthest, lengthSize, positionSize, rowBytes, rowsBytes, baseFor, leaderOf, headOver}
@@ -21,7 +22,6 @@ use Rattle.records.specs.Written as records
 use Rattle.records.specs.Written.AllFit.{fit-none, fit-more}
 use Rattle.items.specs.Item.{isFeature, Item}
 use Rattle.itemfields.specs.Fields.{piece, listPiece, listPieces, vectorKinds, featureKinds, vridBytes, fridBytes, vectorPieces, featurePieces, itemPieces}
-use Rattle.itemfields.proofs.ReadLaws.{allBelow, kinds-keep}
 use Rattle.header.specs.First.{firstRecord}
 use Rattle.header.specs.Literal.{firstBytes}
 use Rattle.header.specs.Dsid.{Dsid, shortest, dsidWith, dsidBytes}
@@ -132,19 +132,19 @@ records-low fit-none all-none = all-none
 records-low (fit-more fit fits) (all-more h rest) = all-join (record-low fit h) (records-low fits rest)
 
 -- ---- the fields of a chart
-tag-four : (k : ℕ) → k < 19 → tagOf k < 4294967296
+tag-four : (k : ℕ) → k < kindCount → tagOf k < 4294967296
 unfolding allBelow tagOf rowOf table asNumber bytes
-tag-four k h = ltb-true (tagOf k) 4294967296 (kinds-keep (λ (j : ℕ). ltb (tagOf j) 4294967296) 19 k refl h)
+tag-four k h = ltb-true (tagOf k) 4294967296 (all-below (λ (j : ℕ). ltb (tagOf j) 4294967296) kindCount k refl h)
 
-piece-low : (k : ℕ) {c : List ℕ} → k < 19 → ByteList c → BytePiece (piece k c)
+piece-low : (k : ℕ) {c : List ℕ} → k < kindCount → ByteList c → BytePiece (piece k c)
 piece-low k h p = record { four = tag-four k h; content = p }
 
-list-low : (k : ℕ) {es : List (List ℕ)} → k < 19 → All ByteList es → All BytePiece (listPiece k es)
+list-low : (k : ℕ) {es : List (List ℕ)} → k < kindCount → All ByteList es → All BytePiece (listPiece k es)
 unfolding listPiece
 list-low k h all-none = all-none
 list-low k h (all-more p ps) = all-more (piece-low k h (all-flatten (all-more p ps))) all-none
 
-lists-low : {ks : List ℕ} (ls : ℕ → List (List ℕ)) → All (λ (k : ℕ). k < 19) ks → ((k : ℕ) → All ByteList (ls k)) → All BytePiece (listPieces ks ls)
+lists-low : {ks : List ℕ} (ls : ℕ → List (List ℕ)) → All (λ (k : ℕ). k < kindCount) ks → ((k : ℕ) → All ByteList (ls k)) → All BytePiece (listPieces ks ls)
 unfolding listPieces
 lists-low ls all-none each = all-none
 lists-low ls (all-more {e = k} h hs) each = all-join (list-low k h (each k)) (lists-low ls hs each)
@@ -162,10 +162,10 @@ frid-low t =
     (all-join (bytes-low 1 (t .grup)) (all-join (bytes-low 2 (t .objl)) (all-join (bytes-low 2 (t .version)) (byte 1 (omega arith) all-none))))))
 
 -- the kinds of lists have numbers of the table
-vector-few : All (λ (k : ℕ). k < 19) vectorKinds
+vector-few : All (λ (k : ℕ). k < kindCount) vectorKinds
 vector-few = all-more (lit< tt) (all-more (lit< tt) (all-more (lit< tt) (all-more (lit< tt) all-none)))
 
-feature-few : All (λ (k : ℕ). k < 19) featureKinds
+feature-few : All (λ (k : ℕ). k < kindCount) featureKinds
 feature-few = all-more (lit< tt) (all-more (lit< tt) (all-more (lit< tt) (all-more (lit< tt) all-none)))
 
 object-low : (n : ℕ) (t : Item) → ByteObject t → All BytePiece (itemPieces n t)

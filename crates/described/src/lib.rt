@@ -4,6 +4,7 @@
 ghost use mathlib.Core.Path.{_≡_};
 ghost use Prim.Native.Nat.{_-_};
 ghost use lib.ListN.{length};
+ghost use Rattle.table.specs.Table.{kindCount};
 ghost use Rattle.iso8211.specs.Field.{countAt};
 ghost use Rattle.iso8211.specs.Premises.{HeadOf, RecordIn};
 ghost use Rattle.declarations.specs.Described.{describedFrom, describedOf, none};
@@ -21,10 +22,10 @@ use table::tags;
 // The fields behind 0000 and 0001: tags of the table, each at most once and as the table has it.
 fn rest(s: &[u8], head: Head) -> Described
     requires { ⌜ RecordIn (now s) 0 × HeadOf (now s) 0 head ⌝ }
-    ensures { λ r. ⌜ (marksOf r ≡ describedFrom (countAt (now (s .entry)) 0 - 2) (now (s .entry)) 2 none) × (length (r .marks) ≡ 20) ⌝ }
+    ensures { λ r. ⌜ (marksOf r ≡ describedFrom (countAt (now (s .entry)) 0 - 2) (now (s .entry)) 2 none) × (length (r .marks) ≡ kindCount) ⌝ }
 {
     let count = head.count;
-    let mut marks = [0u8; 20];
+    let mut marks = [0u8; kinds::COUNT];
     marks[kinds::FIRST] = 1;
     let mut j: usize = 2;
     while j < count {
@@ -48,7 +49,7 @@ fn rest(s: &[u8], head: Head) -> Described
 // The kinds that record 0 declares, or that it breaks its rule.
 pub fn described(s: &[u8]) -> Described
     requires { ⌜ RecordIn (now s) 0 ⌝ }
-    ensures { λ r. ⌜ (marksOf r ≡ describedOf (now (s .entry))) × (length (r .marks) ≡ 20) ⌝ }
+    ensures { λ r. ⌜ (marksOf r ≡ describedOf (now (s .entry))) × (length (r .marks) ≡ kindCount) ⌝ }
 {
     let head = head_of(s, 0);
     if head.count < 2 {

@@ -1,7 +1,7 @@
 -- Laws of the edit of a list of attributes, each by induction along one change and then along all: no label comes twice, those of other
 -- labels are left as they were, and what holds of each attribute goes on to hold. Assumes nothing.
 use Prim.Native.Nat.{ℕ}
-use mathlib.Core.Bool.{Bool, true, false, not, cond, _||_}
+use mathlib.Core.Bool.{Bool, true, false, not, cond, or-true}
 use mathlib.Core.List.{List, [], _∷_, _++_}
 use mathlib.Core.Logic.{⊎-elim}
 use mathlib.Core.Path.{_≡_, refl, sym, ap, _∙_}
@@ -73,10 +73,6 @@ module _ {E : Type 0} (label : E → ℕ) (removes : E → Bool) where
   those-kept such held (a ∷ more) out =
       those-kept such (change label removes a held) more (λ k h. out k (rw h (or-true (eqb (label a) k))))
       ∙ those-change such a held (out (label a) (rw (eq-eqb (label a) (label a) refl)))
-    where
-      or-true : (b : Bool) → (b || true) ≡ true
-      or-true true = refl
-      or-true false = refl
 
   -- what the update doesn't name stays as it was, in order
   pub others-kept : (held brought : List E)

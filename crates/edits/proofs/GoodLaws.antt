@@ -1,15 +1,15 @@
 -- Good lists stay good when they are edited: "No ATTL twice" and good values of attributes, "RIND 2 or 3" and the text of pointers. The
 -- walk with the labels met is three plain facts: each value good, the labels apart, none met before. Assumes nothing.
 use Prim.Native.Nat.{ℕ}
-use mathlib.Core.Bool.{Bool, true, false, not, cond, _&&_, _||_}
+use mathlib.Core.Bool.{Bool, true, false, not, cond, _&&_, or-true}
 use mathlib.Core.List.{List, [], _∷_}
 use mathlib.Core.Path.{_≡_, refl, sym, ap}
 use native.Mathlib.Omega.{arith}
 use lib.Dec.{eqb}
 use borrow.Author.Tests.{eq-eqb, ne-eqb, not-true}
+use Rattle.octets.specs.Lists.{isIn}
 use Rattle.octets.proofs.Tests.{both}
 use Rattle.entries.specs.Rules.{allOf}
-use Rattle.words.specs.Order.{isIn}
 use Rattle.headvalues.specs.Text.{textGood}
 use Rattle.attributes.specs.Attributes.{labelOf, isRemoval, valueGood, rindGood, commentOf}
 use Rattle.itemfields.specs.Views.{attributesGood, pointersGood}
@@ -23,10 +23,6 @@ use Rattle.edits.proofs.AttributeLaws.{changes-apart, changes-all}
 passed : (b c : Bool) → cond b false c ≡ true → (b ≡ false) × (c ≡ true)
 passed true c h = absurd (let z : _≡_ {A = ℕ} 0 1 = cc in omega arith)
 passed false c h = (refl, h)
-
-or-true : (b : Bool) → (b || true) ≡ true
-or-true true = refl
-or-true false = refl
 
 differ : {b c : Bool} → b ≡ true → c ≡ false → b ≡ c → ⊥
 differ t f e = let z : _≡_ {A = ℕ} 0 1 = cc in omega arith

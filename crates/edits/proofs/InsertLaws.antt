@@ -5,16 +5,15 @@ use mathlib.Core.List.{List, []}
 use mathlib.Core.Logic.{⊎-elim}
 use mathlib.Core.Path.{_≡_}
 use lib.Dec.{eqb}
+use Rattle.octets.specs.Lists.{isIn}
 use Rattle.octets.proofs.Cases.{true-or-false}
 use Rattle.octets.proofs.Tests.{both}
 use Rattle.entries.specs.Rules.{allOf}
-use Rattle.words.specs.Order.{isIn}
 use Rattle.table.specs.Table.{FFPT}
 use Rattle.fieldvalue.specs.Value.{isAttributes, isHigh}
 use Rattle.itemfields.specs.Views.{attributesGood, pointersGood, listGood}
 use Rattle.itemfields.specs.Good.{Lists}
 use Rattle.edits.specs.Lists.{Edit}
-use Rattle.edits.specs.Premises.{Brought}
 use Rattle.edits.specs.InsertDelete.{noControl, plainAt, insertAllowed}
 use Rattle.edits.proofs.GoodLaws.{plain-good}
 use Rattle.edits.proofs.ListsLaws.{all-in}
@@ -33,7 +32,7 @@ good-plain aall nall k ls b plain =
     ⊎-elim (λ (t : isAttributes k ≡ true). rw t (plain-good (isHigh aall nall k) (ls k) (rw t at b) (rw t at plain)))
     (λ (f : isAttributes k ≡ false). rw f (rw f at b)) (true-or-false (isAttributes k))
 
-pub inserted-good : {aall nall : ℕ} {kinds : List ℕ} (u : Edit) → Brought aall nall kinds (u .lists) → insertAllowed kinds u ≡ true → Lists aall nall kinds (u .lists)
+pub inserted-good : {aall nall : ℕ} {kinds : List ℕ} (u : Edit) → Lists true aall nall kinds (u .lists) → insertAllowed kinds u ≡ true → Lists false aall nall kinds (u .lists)
 unfolding insertAllowed
 inserted-good {aall} {nall} {kinds} u b a =
     let plain = both (noControl u) (allOf (plainAt (u .lists)) kinds) a .1 in

@@ -10,12 +10,12 @@ use native.Mathlib.Omega.{arith}
 use lib.ListN.{length}
 use lib.Dec.{eqb}
 use borrow.Author.Tests.{eqb-true}
+use Rattle.octets.specs.Lists.{isIn}
 use Rattle.octets.proofs.Cases.{true-or-false}
 use Rattle.octets.proofs.Tests.{both}
 use Rattle.entries.specs.declared.Shape.{Shape}
 use Rattle.entries.specs.Entries.{Each}
 use Rattle.entries.specs.Rules.{allOf}
-use Rattle.words.specs.Order.{isIn}
 use Rattle.table.specs.Table.{VRPT, FFPT, FSPT}
 use Rattle.attributes.specs.Attributes.{labelOf, isRemoval}
 use Rattle.fieldvalue.specs.Value.{isAttributes, isHigh}
@@ -25,7 +25,6 @@ use Rattle.edits.specs.Control.{Control, allowed, editedBy}
 use Rattle.edits.specs.AttributeEdit.{changes, changesFind}
 use Rattle.edits.specs.OnePass.{apart, onePass, findable}
 use Rattle.edits.specs.Lists.{Edit, listAllowed, listEdited, coordinates, controlOf, listsEdited, allowedAt, listsAllowed}
-use Rattle.edits.specs.Premises.{Brought}
 use Rattle.edits.proofs.ControlLaws.{edited-each, edited-by-none}
 use Rattle.edits.proofs.AttributeLaws.{changes-each}
 use Rattle.edits.proofs.GoodLaws.{good-apart, changes-good, edited-pointers}
@@ -108,8 +107,8 @@ module _ (u : Edit) (held : ℕ → List (List ℕ)) (aall nall k : ℕ) (attrib
   lists-one-pass a = rw attributes (one-pass labelOf isRemoval (held k) (u .lists k) held-apart new-apart (sym lists-findable ∙ a))
 
 -- good lists stay good lists
-pub lists-stay-good : {aall nall : ℕ} {kinds : List ℕ} (u : Edit) {held : ℕ → List (List ℕ)} → Lists aall nall kinds held → Brought aall nall kinds (u .lists)
-    → Lists aall nall kinds (listsEdited u held)
+pub lists-stay-good : {aall nall : ℕ} {kinds : List ℕ} (u : Edit) {held : ℕ → List (List ℕ)} → Lists false aall nall kinds held → Lists true aall nall kinds (u .lists)
+    → Lists false aall nall kinds (listsEdited u held)
 lists-stay-good {aall} {nall} u {held} h b = record {
   each = λ k. lists-each u held k (h .each k) (b .each k);
   only = λ k out. lists-empty u held k (h .only k out) (b .only k out);

@@ -3,6 +3,5 @@ pub mod Control
 pub mod AttributeEdit
 pub mod OnePass
 pub mod Lists
-pub mod Premises
 pub mod InsertDelete
 pub mod Examples

@@ -17,7 +17,7 @@ use Rattle.iso8211.specs.Field.{countAt, fieldAt, FieldIn}
 use Rattle.iso8211.specs.Premises.{FramedAt}
 use Rattle.iso8211.specs.declared.field.Field.{Field}
 use Rattle.entries.specs.Premises.{Whole}
-use Rattle.table.specs.Table.{table, rowOf, kindOf, DSID, DSSI, DSPM, VRID, ATTV, FRID, ATTF, NATF, FFPT}
+use Rattle.table.specs.Table.{table, rowOf, kindOf, DSID, DSSI, DSPM, VRID, ATTV, FRID, ATTF, NATF, FFPT, kindCount}
 use Rattle.dataset.specs.Dsid.{dsidFault}
 use Rattle.headvalues.specs.Dssi.{dssiFault}
 use Rattle.headvalues.specs.Dspm.{dspmFault}
@@ -123,7 +123,7 @@ count-few s at f =
 -- the table has under the stamp
 pub record Now (update : Bool) (aall nall : ℕ) (s : List ℕ) (at : ℕ) (t : List ℕ) (j prev stamp : ℕ) : Type 0 where
   pub seen : List ℕ
-  pub stamped : prev ≤ 19 → Stamped t stamp seen
+  pub stamped : prev < kindCount → Stamped t stamp seen
   pub upto : Upto t stamp
   pub below : stamp ≤ at + j
   pub answer : valueFault update aall nall s at ≡ valuesFrom (countAt s at - j) update aall nall s at j prev seen
@@ -132,14 +132,14 @@ pub record Now (update : Bool) (aall nall : ℕ) (s : List ℕ) (at : ℕ) (t : 
 pub record Walked (update : Bool) (aall nall : ℕ) (s : List ℕ) (at : ℕ) (before t : List ℕ) (j prev stamp : ℕ) : Type 0 where
   pub here : Upto before at → Now update aall nall s at t j prev stamp
 
-pub walked-start : (update : Bool) (aall nall : ℕ) (s : List ℕ) (at : ℕ) (t : List ℕ) → Walked update aall nall s at t t 0 20 at
+pub walked-start : (update : Bool) (aall nall : ℕ) (s : List ℕ) (at : ℕ) (t : List ℕ) → Walked update aall nall s at t t 0 kindCount at
 unfolding valueFault
 walked-start update aall nall s at t =
     record { here = λ u. record { seen = []; stamped = λ h. absurd (omega arith); upto = u; below = omega arith; answer = rw (sub-zero (countAt s at)) } }
 
 -- the stamp and the labels with which the list of field j goes on or begins
 module _ {update : Bool} {aall nall : ℕ} {s : List ℕ} {at : ℕ} {before t : List ℕ} {j prev stamp : ℕ} (w : Walked update aall nall s at before t j prev stamp) (k new : ℕ)
-    (small : k ≤ 19)
+    (small : k < kindCount)
     (is : new ≡ cond (eqb prev k) stamp (at + j + 1)) (u : Upto before at) where
   next-stamped : Stamped t new (seenBefore prev k (w .here u .seen))
   unfolding seenBefore
@@ -176,7 +176,7 @@ unfolding valuesFrom
 values-stop n m update aall nall s at j prev seen k c e f g z = rw (e, ← f, ← g, ne-eqb _ _ z)
 
 module _ {update : Bool} {aall nall : ℕ} {s : List ℕ} {at : ℕ} {before t after : List ℕ} {j prev stamp new k r : ℕ} {c : List ℕ} (f : Field)
-    (w : Walked update aall nall s at before t j prev stamp) (more : j < countAt s at) (is : f ≡ fieldAt s at j) (kind : k ≡ kindOf (f .tag)) (small : k ≤ 19)
+    (w : Walked update aall nall s at before t j prev stamp) (more : j < countAt s at) (is : f ≡ fieldAt s at j) (kind : k ≡ kindOf (f .tag)) (small : k < kindCount)
     (content : c ≡ contentOf s f)
     (stamped : new ≡ cond (eqb prev k) stamp (at + j + 1)) (judged : FieldJudged update aall nall k c new t after r) where
   pub walked-on : r ≡ 0 → Walked update aall nall s at before after (j + 1) k new

@@ -22,7 +22,7 @@ ghost use Rattle.answers.specs.Codes.{mostBytes};
 
 // The fault of a field of kind k that is no list of attributes, its content c: 0, or 1 and the place
 // of its first wrong subfield.
-fn plain_fault(c: &[u8], k: usize, update: bool) -> usize
+pub fn plain_fault(c: &[u8], k: usize, update: bool) -> usize
     requires { ⌜ (filled k (now c) ≡ true) × (isAttributes k ≡ false) ⌝ }
     ensures { λ r. ⌜ PlainJudged update k (now (c .entry)) r ⌝ }
 {

@@ -9,9 +9,8 @@ use lib.Seq.{take-take}
 use lib.Dec.{eqb}
 use borrow.Author.Tests.{eq-eqb, ne-eqb}
 use Rattle.octets.proofs.Tests.{told-no, told-yes}
-use Rattle.octets.specs.Number.{byteAt}
 use Rattle.iso8211.specs.Record.{endOf}
-use Rattle.iso8211.specs.Field.{countAt, fieldAt}
+use Rattle.iso8211.specs.Field.{countAt}
 use Rattle.iso8211.specs.Premises.{RecordIn}
 use Rattle.iso8211.specs.File.{recordAt}
 use Rattle.fieldparts.specs.Same.{sameList}
@@ -41,15 +40,13 @@ name-taken d = taken-inside 7 8 20 d (omega arith)
 pub name-same : (f g : List ℕ) (r : Bool) → r ≡ sameList (take 8 (drop 7 f)) (take 8 (drop 7 g)) → r ≡ sameList (chartName (dsidOf f)) (chartName (dsidOf g))
 name-same f g r e = e ∙ rw (name-taken f, name-taken g)
 
--- ---- same_levels: i and j are where DSSI starts
-module _ (s : List ℕ) (at : ℕ) (t : List ℕ) (by i j : ℕ) (a : i ≡ fieldAt s at 2 .start) (b : j ≡ fieldAt t by 2 .start) where
-  pub levels-first : (byteAt t (j + 1) ≡ byteAt s (i + 1) → ⊥) → false ≡ (eqb (aallAt t by) (aallAt s at) && eqb (nallAt t by) (nallAt s at))
-  unfolding aallAt nallAt
-  levels-first ne = rw (← a, ← b, ne-eqb (byteAt t (j + 1)) (byteAt s (i + 1)) ne)
+-- ---- same_levels: a and b are the levels of the first, c and d those of the second
+module _ (s : List ℕ) (at : ℕ) (t : List ℕ) (by a b c d : ℕ) (first : a ≡ aallAt s at) (other : c ≡ aallAt t by) where
+  pub levels-first : (c ≡ a → ⊥) → false ≡ (eqb (aallAt t by) (aallAt s at) && eqb (nallAt t by) (nallAt s at))
+  levels-first ne = rw (← first, ← other, ne-eqb c a ne)
 
-  pub levels-second : byteAt t (j + 1) ≡ byteAt s (i + 1) → eqb (byteAt t (j + 2)) (byteAt s (i + 2)) ≡ (eqb (aallAt t by) (aallAt s at) && eqb (nallAt t by) (nallAt s at))
-  unfolding aallAt nallAt
-  levels-second e = rw (← a, ← b, eq-eqb (byteAt t (j + 1)) (byteAt s (i + 1)) e)
+  pub levels-second : c ≡ a → b ≡ nallAt s at → d ≡ nallAt t by → eqb d b ≡ (eqb (aallAt t by) (aallAt s at) && eqb (nallAt t by) (nallAt s at))
+  levels-second e f g = rw (← first, ← other, ← f, ← g, eq-eqb c a e)
 
 -- ---- dsid_code: r is whether the names are the same, p and q are the parts of the two
 number-of : (d : List ℕ) → dsidOf d .number ≡ numberIn d

@@ -16,9 +16,9 @@ ghost use Rattle.changes.specs.Follow.{chartName, followCode};
 ghost use Rattle.follow.specs.Headed.{Headed, dsidCode};
 use fieldparts::descriptive::same_bytes;
 use fronts::front::content;
-use fronts::front::dssi_at;
 use header::dsid::parts_of;
 use iso8211::field::record_end;
+use layout::general::levels_at;
 use table::offsets;
 ghost use Rattle.layout.specs.General.{aallAt, nallAt};
 use answers::codes::EDITION;
@@ -41,12 +41,12 @@ fn same_levels(cell: &[u8], at: usize, update: &[u8], by: usize) -> bool
     requires { ⌜ DsidIn (now cell) at × DsidIn (now update) by ⌝ }
     ensures { λ r. ⌜ r ≡ (eqb (aallAt (now (update .entry)) by) (aallAt (now (cell .entry)) at) && eqb (nallAt (now (update .entry)) by) (nallAt (now (cell .entry)) at)) ⌝ }
 {
-    let i = dssi_at(cell, at);
-    let j = dssi_at(update, by);
-    if update[j + offsets::DSSI_AALL] != cell[i + offsets::DSSI_AALL] {
+    let own = levels_at(cell, at);
+    let its = levels_at(update, by);
+    if its.aall != own.aall {
         return false;
     }
-    update[j + offsets::DSSI_NALL] == cell[i + offsets::DSSI_NALL]
+    its.nall == own.nall
 }
 
 // Codes 9 to 11, from the DSID f of the cell and g of the update.

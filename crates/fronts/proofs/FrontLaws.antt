@@ -4,7 +4,8 @@ use mathlib.Core.List.{List, [], _∷_, _++_, append-assoc}
 use mathlib.Core.Path.{_≡_, refl, sym, ap, _∙_}
 use native.Mathlib.Omega.{arith}
 use lib.ListN.{length, take, drop, length-append, length-take}
-use Rattle.octets.specs.Number.{byteAt, bytesOf}
+use Rattle.layout.specs.Premises.{LevelsIn}
+use Rattle.octets.specs.Number.{bytesOf}
 use Rattle.octets.specs.Area.{Wrote}
 use Rattle.octets.proofs.AreaLaws.{wrote-join, wrote-as, wrote-length}
 use Rattle.octets.proofs.NumberLaws.{wrote-to}
@@ -49,11 +50,8 @@ module _ {s : List ℕ} {at j : ℕ} {f : Field} (there : FieldThere s at j f) w
       let e = length-take (f .start + (f .length - 1) - f .start) (drop (f .start) s) in
       omega arith
 
-pub dssi-start : {s : List ℕ} {at : ℕ} {f : Field} → FieldThere s at 2 f → f .start ≡ fieldAt s at 2 .start
-dssi-start there = ap (λ (x : Field). x .start) (there .is)
-
-pub dssi-whole : {s : List ℕ} {at : ℕ} {f : Field} → FieldThere s at 2 f → DsidIn s at → f .start + 35 ≤ length s
-dssi-whole there so = rw (there .is) (so .whole)
+pub levels-there : {s : List ℕ} {at : ℕ} → DsidIn s at → LevelsIn s at
+levels-there so = record { inside = so .inside; third = so .third; room = omega (arith, so .whole) }
 
 -- ---- a DSID lent is one that is known
 pub lent-known : {s : List ℕ} {at : ℕ} (f : List ℕ) → DsidIn s at → f ≡ contentAt s at 1 → Known f
@@ -132,11 +130,9 @@ number-end v w x = omega (arith, wrote-to 2 v w, wrote-to 1 30 x)
 pub counts-room : {a b : List ℕ} {at m : ℕ} (x y : ℕ) (t : Tally) → at + 36 ≤ length a → Wrote a at (dssiBytes x y t) b m → m + 1 ≤ length b
 counts-room x y t room w = omega (arith, w .end, wrote-length w, dssi-length x y t)
 
-pub counts-put : {a b d : List ℕ} {place m r : ℕ} (s : List ℕ) (at i : ℕ) (t : Tally) → i ≡ fieldAt s at 2 .start
-    → Wrote a place (dssiBytes (byteAt s (i + 1)) (byteAt s (i + 2)) t) b m → Wrote b m (bytesOf 1 30) d r
-    → Wrote a place (dssiBytes (aallAt s at) (nallAt s at) t ++ (30 ∷ [])) d r
-unfolding aallAt nallAt
-counts-put s at i t is w x = ended (rw is at w) x
+pub counts-put : {a b d : List ℕ} {place m r : ℕ} (s : List ℕ) (at x y : ℕ) (t : Tally) → x ≡ aallAt s at → y ≡ nallAt s at
+    → Wrote a place (dssiBytes x y t) b m → Wrote b m (bytesOf 1 30) d r → Wrote a place (dssiBytes (aallAt s at) (nallAt s at) t ++ (30 ∷ [])) d r
+counts-put s at x y t e f w v = ended (rw (e, f) at w) v
 
 -- ---- the fields of the record of DSPM
 pub dspm-put : {a b d e : List ℕ} {place m q r : ℕ} (f : List ℕ) → Wrote a place (bytesOf 2 2 ++ (30 ∷ [])) b m → Wrote b m f d q → Wrote d q (bytesOf 1 30) e r

@@ -5,7 +5,7 @@ ghost use mathlib.Core.List.{[], _∷_, _++_};
 ghost use lib.ListN.{length, take};
 ghost use Rattle.octets.specs.Number.{bytesOf};
 ghost use Rattle.octets.specs.Area.{Wrote};
-ghost use Rattle.iso8211.specs.Field.{countAt, fieldAt};
+ghost use Rattle.iso8211.specs.Field.{countAt};
 ghost use Rattle.iso8211.specs.Premises.{RecordIn};
 ghost use Rattle.layout.specs.Record.{contentAt};
 ghost use Rattle.records.specs.Written.{bodyOf, recordBytes, sizeOf};
@@ -21,6 +21,7 @@ use header::dssi::put_dssi;
 use iso8211::field::Field;
 use iso8211::field::field_at;
 use iso8211::field::head_of;
+use layout::general::levels_at;
 use octets::area::copy;
 use octets::number::put1;
 use octets::number::put2;
@@ -146,22 +147,13 @@ fn put_renamed(f: &[u8], g: &[u8], out: &mut [u8], place: usize) -> usize
     put1(out, end, 30)
 }
 
-// Where DSSI starts in the record at `at`.
-pub fn dssi_at(s: &[u8], at: usize) -> usize
-    requires { ⌜ DsidIn (now s) at ⌝ }
-    ensures { λ r. ⌜ (r ≡ fieldAt (now (s .entry)) at 2 .start) × (r + 35 ≤ length (now (s .entry))) ⌝ }
-{
-    let f = field_in(s, at, 2);
-    f.start
-}
-
 // DSSI with these counts and the levels of the record at `at`, and its 1E.
 fn put_counts(s: &[u8], at: usize, t: Tally, out: &mut [u8], place: usize) -> usize
     requires { ⌜ DsidIn (now s) at × (place + 36 ≤ length (now out)) ⌝ }
     ensures { λ r. ⌜ Wrote (now (out .entry)) place (dssiIn (now (s .entry)) at t ++ (30 ∷ [])) (now (out .exit)) r ⌝ }
 {
-    let i = dssi_at(s, at);
-    let end = put_dssi(s[i + 1], s[i + 2], t, out, place);
+    let l = levels_at(s, at);
+    let end = put_dssi(l.aall, l.nall, t, out, place);
     put1(out, end, 30)
 }
 

@@ -12,9 +12,6 @@ pub use front::revised_total;
 // The same of the record of DSPM.
 pub use front::dspm_total;
 
-// Where DSSI starts in the record at `at`.
-pub use front::dssi_at;
-
 // The record of DSID, which is at `at`, with these counts.
 pub use front::put_dsid_record;
 

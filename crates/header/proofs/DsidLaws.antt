@@ -10,6 +10,7 @@ use lib.ListN.{length, take, drop, length-append, length-drop, List·getD-append
 use lib.Seq.{getD-take, getD-drop, take-at, drop-at, drop-drop, drop-append-le, length-take-le}
 use lib.Dec.{eqb, leb}
 use borrow.Author.Tests.{eq-eqb, ne-eqb, le-leb, eqb-true, leb-true}
+use Rattle.octets.proofs.ListLaws.{has-self}
 use Rattle.octets.specs.Number.{byteAt, numAt}
 use Rattle.octets.specs.Digits.{digitsFrom, numberAt, digitsOf, fewest}
 use Rattle.octets.specs.Area.{Has}
@@ -29,7 +30,6 @@ use Rattle.dataset.proofs.DsidLaws.{dsid-laid}
 use Rattle.header.specs.Dsid.{Dsid, shortest, dsidWith, dsidOf, dsidBytes, revised}
 use Rattle.layout.specs.General.{editionIn, numberIn}
 use Rattle.header.specs.Known.{Known, dated}
-use Rattle.itemfields.proofs.IdLaws.{has-self}
 use Rattle.itemfields.proofs.ReadLaws.{none-first, none-at}
 
 -- ---- the first 1F

@@ -6,6 +6,7 @@ use mathlib.Core.Path.{_≡_, refl}
 use native.Mathlib.Omega.{arith}
 use lib.ListN.{length}
 use borrow.Author.Tests.{le-leb}
+use Rattle.octets.proofs.ListLaws.{has-self}
 use Rattle.octets.specs.Number.{byteAt, numAt, bytesOf}
 use Rattle.octets.specs.Area.{Has}
 use Rattle.octets.proofs.AreaLaws.{has-left, has-right}
@@ -15,7 +16,6 @@ use Rattle.values.specs.Fault as fault
 use Rattle.headvalues.specs.Dssi.{noneGood, dssiFault}
 use Rattle.counted.specs.declared.counts.Tally.{Tally}
 use Rattle.counted.specs.Tallies.{AtMost}
-use Rattle.itemfields.proofs.IdLaws.{has-self}
 use Rattle.header.specs.Dssi.{featureCounts, vectorCounts, dssiBytes}
 
 pub record DssiRead (v : List ℕ) (aall nall : ℕ) (t : Tally) : Type 0 where

@@ -1,5 +1,5 @@
 -- Record 0 of the held form, computed with any bytes behind it. Assumes nothing.
-use Prim.Native.Nat.{ℕ, _+_, _≤_}
+use Prim.Native.Nat.{ℕ, suc, _+_, _≤_}
 use mathlib.Core.Bool.{Bool, true, false, _||_}
 use mathlib.Core.List.{List, [], _∷_, _++_}
 use mathlib.Core.Path.{_≡_, refl, ap}
@@ -7,6 +7,7 @@ use native.Mathlib.Omega.{arith}
 use lib.ListN.{length, getD}
 use lib.Dec.{eqb}
 use borrow.Author.Tests.{le-leb, eqb-true}
+use Rattle.octets.proofs.ListLaws.{allBelow, all-below}
 use Rattle.octets.specs.Digits.{digitsFrom, numberAt, isDigit, digitsOf, fewest, fewestFrom}
 use Rattle.iso8211.specs.Leader.{kindGood, sizeGood, leaderGood}
 use Rattle.iso8211.specs.Directory.{tagAt, rowAt, rows}
@@ -17,7 +18,7 @@ use Rattle.formats.specs.Formats.{digitAt, shortFrom, shortAt, isLetter, closed
 use Rattle.formats.specs.Formats.{listAt, writtenAt}
 use Rattle.fieldparts.specs.Descriptive.{partsOf, partsAt, separatorAt, separatorIn}
 use Rattle.fieldparts.specs.Same.{sameList}
-use Rattle.table.specs.Table.{rowOf, table, tagOf, kindOf, among, asNumber}
+use Rattle.table.specs.Table.{rowOf, table, tagOf, kindOf, among, asNumber, first}
 use Rattle.table.specs.Text.{bytes}
 use Rattle.declarations.specs.Described.{labelsIn, formatsIn, sameFormats, describes, describedFrom, describedOf}
 use Rattle.records.specs.Written.{tagBytes, bodyOf, rowsFor, longest, farthest, rowBytes, rowsBytes, baseFor}
@@ -25,7 +26,6 @@ use Rattle.records.specs.Premises.{First}
 use Rattle.header.specs.First.{tree, declares, firstPieces, firstLeader, firstOver, firstRecord}
 use Rattle.header.specs.Literal.{firstBytes}
 use Rattle.itemfields.proofs.LaidLaws.{Declared}
-use Rattle.itemfields.proofs.ReadLaws.{allBelow, kinds-keep}
 
 first-good : (t : List ℕ) → recordGood true (firstBytes ++ t) 0 ≡ true
 unfolding firstBytes digitsFrom numberAt isDigit kindGood sizeGood leaderGood tagAt rowAt rows fieldGood inRow bodyGood recordGood
@@ -48,11 +48,11 @@ unfolding firstBytes digitsFrom numberAt isDigit tagAt rowAt rows countAt direct
     itemAt itemsFrom listAt writtenAt rowOf table tagOf kindOf among asNumber bytes
 literal-described t = refl
 
-declared-first : (k : ℕ) → k ≤ 18 → rowOf k .control ≡ false → getD firstMarks k 0 ≡ 1
+declared-first : (k : ℕ) → k ≤ first → rowOf k .control ≡ false → getD firstMarks k 0 ≡ 1
 unfolding allBelow rowOf table
 declared-first k few free =
     eqb-true (getD firstMarks k 0) 1
-    (or-free (rowOf k .control) (eqb (getD firstMarks k 0) 1) (kinds-keep (λ j. rowOf j .control || eqb (getD firstMarks j 0) 1) 19 k refl (omega arith)) free)
+    (or-free (rowOf k .control) (eqb (getD firstMarks k 0) 1) (all-below (λ j. rowOf j .control || eqb (getD firstMarks j 0) 1) (suc first) k refl (omega arith)) free)
   where
     or-free : (a b : Bool) → (a || b) ≡ true → a ≡ false → b ≡ true
     or-free false b h e = h

@@ -1,6 +1,6 @@
 -- A readable cell's chart is one that can be held. Assumes nothing.
 use Prim.Native.Nat.{ℕ, zero, suc, _+_, _-_, _≤_, _<_}
-use mathlib.Core.Bool.{Bool, true, false, cond, _||_}
+use mathlib.Core.Bool.{Bool, true, false, cond}
 use mathlib.Core.List.{List, [], _∷_}
 use mathlib.Core.Logic.{_⊎_, ⊎-elim}
 use mathlib.Core.Path.{_≡_, refl, sym, ap, _∙_}
@@ -8,16 +8,16 @@ use native.Mathlib.Omega.{arith}
 use lib.ListN.{length}
 use lib.Dec.{eqb}
 use borrow.Author.Tests.{eq-eqb, ne-eqb, eqb-true, leb-true}
+use Rattle.octets.specs.Lists.{isIn}
 use Rattle.octets.specs.Number.{byteAt}
 use Rattle.octets.proofs.Cases.{true-or-false, le-or-lt}
-use Rattle.octets.proofs.Tests.{both}
+use Rattle.octets.proofs.Tests.{both, never, or-right}
 use Rattle.iso8211.specs.Record.{endOf}
 use Rattle.iso8211.specs.Field.{fieldAt}
 use Rattle.iso8211.specs.Premises.{RecordIn}
 use Rattle.iso8211.specs.File.{frameOf, recordAt}
 use Rattle.iso8211.specs.declared.file.Framed.the-variants.{Records}
 use Rattle.iso8211.proofs.Promise.{record-in, at-next, last-ends}
-use Rattle.words.specs.Order.{isIn}
 use Rattle.table.specs.Table.{rowOf, table, DSID, DSSI, VRID, FRID}
 use Rattle.values.specs.Fault as fault
 use Rattle.dataset.specs.Dsid.{dsidLaid, dsidFault}
@@ -43,7 +43,7 @@ use Rattle.held.specs.Good.{Good, GoodChart}
 use Rattle.held.specs.Good.Good.{a-vector, a-feature}
 use Rattle.itemfields.proofs.ViewLaws.{laid-told, values-told, count-seen, piece-seen, number-seen}
 use Rattle.itemfields.proofs.JoinLaws.{step}
-use Rattle.itemfields.proofs.ReadLaws.{Opened, opened, vector-told, feature-told, none-first, none-at, never}
+use Rattle.itemfields.proofs.ReadLaws.{Opened, opened, vector-told, feature-told, none-first, none-at}
 use Rattle.header.specs.Known.{Known}
 use Rattle.header.proofs.DsidLaws.{dsid-back, dsid-known}
 use Rattle.held.proofs.OrderLaws.{namesOf, Apart, order-ordered}
@@ -88,10 +88,6 @@ object-told : (stage : ℕ) (marks : List ℕ) (aall nall : ℕ) (s : List ℕ) 
     → Good aall nall (itemAt s at)
 object-told stage marks aall nall s at small low high known laid valued = opened-object stage marks aall nall s at small low high
     (open-record false stage marks aall nall s at known laid valued)
-
-pub or-right : (a b : Bool) → b ≡ true → (a || b) ≡ true
-or-right true b h = refl
-or-right false b h = h
 
 pub differs : (x y : ℕ) (seen : List ℕ) → isIn x seen ≡ false → isIn y seen ≡ true → x ≡ y → ⊥
 differs x y seen no-x has-y e = let f : isIn y seen ≡ false = rw e at no-x in let z : _≡_ {A = Bool} false true = cc in let w : _≡_ {A = ℕ} 0 1 = cc in omega arith

@@ -36,11 +36,11 @@ use Rattle.itemfields.proofs.FieldsLaws.{class-small, laid-vector, laid-feature
 use Rattle.answers.specs.Answer.{fine}
 
 -- ---- one object, of either kind
-pub vector-pieces : (n : ℕ) (t : Item) {aall nall : ℕ} → Vector aall nall t → itemPieces n t ≡ vectorPieces n t
+pub vector-pieces : (n : ℕ) (t : Item) {aall nall : ℕ} → Vector false aall nall t → itemPieces n t ≡ vectorPieces n t
 unfolding itemPieces item.isFeature
 vector-pieces n t v = let s = class-small (t .rcnm) (v .class) in rw (ne-eqb (t .rcnm) 100 (λ e. omega arith))
 
-pub feature-pieces : (n : ℕ) (t : Item) {aall nall : ℕ} → Feature aall nall t → itemPieces n t ≡ featurePieces n t
+pub feature-pieces : (n : ℕ) (t : Item) {aall nall : ℕ} → Feature false aall nall t → itemPieces n t ≡ featurePieces n t
 unfolding itemPieces item.isFeature
 feature-pieces n t f = rw (eq-eqb (t .rcnm) 100 (f .class))
 
@@ -65,14 +65,14 @@ low-rank false true c h = omega arith
 low-rank false false true h = omega arith
 low-rank false false false h = absurd (let z : _≡_ {A = ℕ} 0 1 = cc in omega arith)
 
-vector-name : (t : Item) {aall nall : ℕ} → Vector aall nall t → itemName t < 12884901888
+vector-name : (t : Item) {aall nall : ℕ} → Vector false aall nall t → itemName t < 12884901888
 unfolding nameFrom rankOf isVector
 vector-name t v =
     let r = low-rank (eqb (t .rcnm) 110) (eqb (t .rcnm) 120) (eqb (t .rcnm) 130) (v .class) in
     let h = v .id-high in
     omega arith
 
-feature-name : (t : Item) {aall nall : ℕ} → Feature aall nall t → 12884901888 ≤ itemName t
+feature-name : (t : Item) {aall nall : ℕ} → Feature false aall nall t → 12884901888 ≤ itemName t
 unfolding nameFrom rankOf
 feature-name t f = rw (f .class) (omega arith)
 

@@ -8,9 +8,10 @@ use native.Mathlib.Omega.{arith}
 use lib.ListN.{length}
 use lib.Dec.{eqb}
 use borrow.Author.Tests.{eqb-true}
+use Rattle.octets.proofs.Tests.{or-cases}
+use Rattle.octets.specs.Lists.{isIn}
 use Rattle.octets.proofs.Cases.{true-or-false}
 use Rattle.iso8211.specs.Record.{endOf}
-use Rattle.words.specs.Order.{isIn}
 use Rattle.items.specs.Identity.{rcnmAt}
 use Rattle.names.specs.Names.{twiceFrom}
 use Rattle.counted.specs.Counts as counts
@@ -23,7 +24,6 @@ use Rattle.itemfields.specs.Fields.{itemPieces}
 use Rattle.held.specs.Held.{itemsPieces, countIn, ofName, ofClass}
 use Rattle.held.specs.Good.{Ordered}
 use Rattle.held.specs.Good.Ordered.{ordered-none, ordered-more}
-use Rattle.itemfields.proofs.FieldsLaws.{or-cases}
 use Rattle.held.proofs.FileLaws.{object-back}
 
 -- ---- names

@@ -7,8 +7,9 @@ use mathlib.Core.Path.{_≡_, refl, ap, _∙_}
 use native.Mathlib.Omega.{arith}
 use lib.Dec.{eqb, leb}
 use borrow.Author.Tests.{le-leb, lt-leb, eqb-false, ne-eqb}
+use Rattle.octets.proofs.Tests.{or-false, or-swap}
+use Rattle.octets.specs.Lists.{isIn}
 use Rattle.octets.proofs.Cases.{true-or-false, le-or-lt}
-use Rattle.words.specs.Order.{isIn}
 use Rattle.items.specs.Item.{itemName, Item}
 use Rattle.names.specs.Held.{insertBy, orderBy, heldOrder}
 use Rattle.held.specs.Good.{Good, Ordered}
@@ -35,21 +36,12 @@ pub data Apart (aall nall : ℕ) : List Item → Type 0 where
   apart-none : Apart aall nall []
   apart-more : {t : Item} {ts : List Item} → Good aall nall t → isIn (itemName t) (namesOf ts) ≡ false → Apart aall nall ts → Apart aall nall (t ∷ ts)
 
-or-false : (a b : Bool) → (a || b) ≡ false → (a ≡ false) × (b ≡ false)
-or-false false b h = (refl, h)
-or-false true b h = absurd (let z : _≡_ {A = ℕ} 0 1 = cc in omega arith)
-
-either-swap : (a b c : Bool) → (a || (b || c)) ≡ (b || (a || c))
-either-swap true true c = refl
-either-swap true false c = refl
-either-swap false b c = refl
-
 insert-names : (x : ℕ) (t : Item) (ts : List Item) → isIn x (namesOf (insertBy itemName t ts)) ≡ (eqb (itemName t) x || isIn x (namesOf ts))
 unfolding insertBy namesOf isIn
 insert-names x t [] = refl
 insert-names x t (u ∷ us) =
     ⊎-elim (λ (h : leb (itemName t) (itemName u) ≡ true). rw h)
-    (λ (h : leb (itemName t) (itemName u) ≡ false). rw (h, insert-names x t us) (either-swap (eqb (itemName u) x) (eqb (itemName t) x) (isIn x (namesOf us))))
+    (λ (h : leb (itemName t) (itemName u) ≡ false). rw (h, insert-names x t us) (or-swap (eqb (itemName u) x) (eqb (itemName t) x) (isIn x (namesOf us))))
     (true-or-false (leb (itemName t) (itemName u)))
 
 pub order-names : (x : ℕ) (ts : List Item) → isIn x (namesOf (heldOrder ts)) ≡ isIn x (namesOf ts)

@@ -12,8 +12,8 @@ use Rattle.header.specs.Dsid.{dsidOf, dsidBytes}
 use Rattle.held.specs.Chart.{Chart}
 
 pub data Good (aall nall : ℕ) (t : Item) : Type 0 where
-  a-vector : Vector aall nall t → Good aall nall t
-  a-feature : Feature aall nall t → Good aall nall t
+  a-vector : Vector false aall nall t → Good aall nall t
+  a-feature : Feature false aall nall t → Good aall nall t
 
 -- "vectors by class 110, 120, 130, then features, RCID ascending": each good, and named from `low` on
 pub data Ordered (aall nall : ℕ) : ℕ → List Item → Type 0 where

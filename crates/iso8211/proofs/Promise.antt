@@ -101,7 +101,7 @@ last-ends s n v = ends-from (suc (length s)) s 0 0 n v refl
 pub records-few : (s : List ℕ) (n : ℕ) → frameOf s ≡ Records n → n ≤ length s
 records-few s n v = let low = at-least s n n v (le-refl n) in let e = last-ends s n v in omega (arith, e .1)
 
-broken-apart : (good last : Bool) (k j : ℕ) (on : Framed) → cond good (cond last (Records (k + 1)) on) (Broken k) ≡ Broken j → (k ≡ j) ⊎ ((good ≡ true) × (on ≡ Broken j))
+pub broken-apart : (good last : Bool) (k j : ℕ) (on : Framed) → cond good (cond last (Records (k + 1)) on) (Broken k) ≡ Broken j → (k ≡ j) ⊎ ((good ≡ true) × (on ≡ Broken j))
 broken-apart true true k j on v = absurd (let z : _≡_ {A = ℕ} 0 1 = cc in omega arith)
 broken-apart true false k j on v = inr (refl, v)
 broken-apart false last k j on v = inl cc

@@ -9,13 +9,14 @@ use native.Mathlib.Omega.{arith}
 use lib.ListN.{length, getD}
 use lib.Dec.{eqb}
 use borrow.Author.Tests.{eq-eqb, ne-eqb, eqb-true, eqb-false}
+use Rattle.octets.proofs.ListLaws.{has-self}
+use Rattle.octets.specs.Lists.{isIn}
 use Rattle.octets.specs.Number.{byteAt, numAt, bytesOf}
 use Rattle.octets.proofs.Cases.{true-or-false}
-use Rattle.octets.proofs.Tests.{both}
+use Rattle.octets.proofs.Tests.{both, or-cases}
 use Rattle.entries.specs.Rules.{allOf}
 use Rattle.octets.proofs.NumberLaws.{bytes-length, num-read}
 use Rattle.iso8211.specs.Field.{fieldAt}
-use Rattle.words.specs.Order.{isIn}
 use Rattle.entries.proofs.EntriesLaws.{cut-joined}
 use Rattle.table.specs.Table.{table, rowOf, tagOf, kindOf, among, asNumber, first, VRID, ATTV, VRPT, SG2D, SG3D, FRID, FOID}
 use Rattle.table.specs.Text.{bytes}
@@ -36,7 +37,7 @@ use Rattle.itemfields.proofs.KindLaws.{Chain, pairs-chain, soundings-ch
 use Rattle.itemfields.proofs.KindLaws.Chain.{chain-none, chain-more}
 use Rattle.itemfields.proofs.ViewLaws.{list-seen, number-seen}
 use Rattle.itemfields.proofs.LaidLaws.{Declared, laid-lists, valued-lists}
-use Rattle.itemfields.proofs.IdLaws.{has-self, vrid-long, frid-long, VridRead, FridRead, vrid-read, frid-read, vrid-fine, frid-fine}
+use Rattle.itemfields.proofs.IdLaws.{vrid-long, frid-long, VridRead, FridRead, vrid-read, frid-read, vrid-fine, frid-fine}
 
 -- ---- the head of a record
 -- a field that is no list, of n bytes, as the table has it
@@ -75,7 +76,7 @@ unfolding listPieces listPiece
 one-list t e = ⊎-elim (λ (p : t .lists SG2D ≡ []). inr (rw p)) (λ (p : t .lists SG3D ≡ []). inl (rw p)) e
 
 -- ---- laid out
-pub laid-vector : (n : ℕ) (t : Item) {aall nall : ℕ} {marks : List ℕ} → Vector aall nall t → Declared marks → laidIn false 2 marks start (vectorPieces n t) ≡ true
+pub laid-vector : (n : ℕ) (t : Item) {aall nall : ℕ} {marks : List ℕ} → Vector false aall nall t → Declared marks → laidIn false 2 marks start (vectorPieces n t) ≡ true
 unfolding vectorPieces placed opens rowOf table
 laid-vector n t {marks = marks} v d =
     let ls = t .lists in
@@ -86,7 +87,7 @@ laid-vector n t {marks = marks} v d =
     laid-single false 2 start (bytesOf 2 n) _ d single-first refl (bytes-length 2 n)
     (laid-single false 2 first (vridBytes t) _ d single-vrid refl (vrid-long t) lists)
 
-pub laid-feature : (stage n : ℕ) (t : Item) {aall nall : ℕ} {marks : List ℕ} → (stage ≡ 2) ⊎ (stage ≡ 3) → Feature aall nall t → Declared marks
+pub laid-feature : (stage n : ℕ) (t : Item) {aall nall : ℕ} {marks : List ℕ} → (stage ≡ 2) ⊎ (stage ≡ 3) → Feature false aall nall t → Declared marks
     → laidIn false stage marks start (featurePieces n t) ≡ true
 unfolding featurePieces placed opens follows rowOf table
 laid-feature stage n t due f d =
@@ -118,10 +119,6 @@ fault-frid : (aall nall : ℕ) (seen c : List ℕ) → fieldFault false aall nal
 unfolding fieldFault
 fault-frid aall nall seen c = refl
 
-pub or-cases : (a b : Bool) → (a || b) ≡ true → (a ≡ true) ⊎ (b ≡ true)
-or-cases true b h = inl refl
-or-cases false b h = inr h
-
 pub class-small : (rcnm : ℕ) → isVector rcnm ≡ true → (rcnm < 256) × (101 ≤ rcnm)
 unfolding isVector
 class-small rcnm h =
@@ -131,14 +128,14 @@ class-small rcnm h =
     (λ (b : eqb rcnm 130 ≡ true). let e = eqb-true rcnm 130 b in (omega arith, omega arith)) (or-cases _ _ a))
     (or-cases _ _ h)
 
-vector-id : (t : Item) {aall nall : ℕ} → Vector aall nall t → VridRead (vridBytes t) t
+vector-id : (t : Item) {aall nall : ℕ} → Vector false aall nall t → VridRead (vridBytes t) t
 vector-id t v = let a = v .id-high in let b = v .version-high in vrid-read t (class-small (t .rcnm) (v .class) .0) (omega arith) (omega arith)
 
-feature-id : (t : Item) {aall nall : ℕ} → Feature aall nall t → FridRead (fridBytes t) t
+feature-id : (t : Item) {aall nall : ℕ} → Feature false aall nall t → FridRead (fridBytes t) t
 feature-id t f = let a = f .id-high in let b = f .version-high in let c = f .class in frid-read t (omega arith) (omega arith) (f .prim-small) (f .grup-small) (f .objl-small)
     (omega arith)
 
-pub valued-vector : (n : ℕ) (t : Item) {aall nall : ℕ} → Vector aall nall t → valuedIn false aall nall start [] (vectorPieces n t) ≡ true
+pub valued-vector : (n : ℕ) (t : Item) {aall nall : ℕ} → Vector false aall nall t → valuedIn false aall nall start [] (vectorPieces n t) ≡ true
 unfolding vectorPieces
 valued-vector n t {aall} {nall} v =
     let ls = t .lists in
@@ -151,7 +148,7 @@ valued-vector n t {aall} {nall} v =
     (λ met. valued-single aall nall first met (vridBytes t) _ single-vrid
     (fault-vrid aall nall (seenBefore first VRID met) (vridBytes t) ∙ vrid-fine (vridBytes t) t (vector-id t v) (v .class) (v .id-low) (v .id-high) (v .version-low)) lists)
 
-pub valued-feature : (n : ℕ) (t : Item) {aall nall : ℕ} → Feature aall nall t → valuedIn false aall nall start [] (featurePieces n t) ≡ true
+pub valued-feature : (n : ℕ) (t : Item) {aall nall : ℕ} → Feature false aall nall t → valuedIn false aall nall start [] (featurePieces n t) ≡ true
 unfolding featurePieces
 valued-feature n t {aall} {nall} f =
     valued-single aall nall start [] (bytesOf 2 n) _ single-first (fault-first aall nall _ _)
@@ -206,7 +203,7 @@ kinds-list (j ∷ ks) k all h =
     ⊎-elim (λ (e : eqb j k ≡ true). rw (eqb-true j k e) at (p .0)) (λ (e : isIn k ks ≡ true). kinds-list ks k (p .1) e) (or-cases _ _ h)
 
 -- lists of some kinds alone, read back from the fields that they were written to
-all-back : {prev aall nall : ℕ} {ks kinds : List ℕ} (ls : ℕ → List (List ℕ)) (s : List ℕ) (at : ℕ) (fs : List Piece) → piecesAt s at ≡ fs → Chain prev ks → Lists aall nall kinds ls
+all-back : {prev aall nall : ℕ} {ks kinds : List ℕ} (ls : ℕ → List (List ℕ)) (s : List ℕ) (at : ℕ) (fs : List Piece) → piecesAt s at ≡ fs → Chain prev ks → Lists false aall nall kinds ls
     → allOf (λ j. rowOf j .list) kinds ≡ true → ((k : ℕ) → isIn k ks ≡ false → ls k ≡ []) → ((k : ℕ) → rowOf k .list ≡ true → listIn k fs ≡ listIn k (listPieces ks ls))
     → (k : ℕ) → listOf s at k ≡ ls k
 unfolding listOf entriesAt flatten
@@ -237,7 +234,7 @@ no-soundings : (ls : ℕ → List (List ℕ)) → ls SG3D ≡ [] → listPieces 
 unfolding listPieces listPiece
 no-soundings ls e = rw e
 
-vector-rest : (t : Item) {aall nall : ℕ} → Vector aall nall t → (s : List ℕ) (at : ℕ) (n : ℕ) → piecesAt s at ≡ vectorPieces n t → (k : ℕ) → listOf s at k ≡ t .lists k
+vector-rest : (t : Item) {aall nall : ℕ} → Vector false aall nall t → (s : List ℕ) (at : ℕ) (n : ℕ) → piecesAt s at ≡ vectorPieces n t → (k : ℕ) → listOf s at k ≡ t .lists k
 unfolding vectorPieces isIn allOf rowOf table
 vector-rest t v s at n is k =
     let ls = t .lists in
@@ -260,7 +257,7 @@ bare-is : (a b c p g o f : ℕ) (ls : ℕ → List (List ℕ)) → (p ≡ 0) × 
     (record { rcnm = a; rcid = b; version = c; prim = p; grup = g; objl = o; foid = f; lists = ls })
 bare-is a b c p g o f ls e = rw (e .0, e .1, e .2, e .3)
 
-pub vector-back : (t : Item) {aall nall : ℕ} → Vector aall nall t → (s : List ℕ) (at : ℕ) (n : ℕ) → piecesAt s at ≡ vectorPieces n t → itemAt s at ≡ t
+pub vector-back : (t : Item) {aall nall : ℕ} → Vector false aall nall t → (s : List ℕ) (at : ℕ) (n : ℕ) → piecesAt s at ≡ vectorPieces n t → itemAt s at ≡ t
 unfolding rcnmAt rcidAt versionAt ofFeature isFeature vectorPieces
 vector-back t v s at n is =
     let r = vector-id t v in
@@ -273,7 +270,7 @@ vector-back t v s at n is =
     let ls : listOf s at ≡ t .lists = fun-ext (vector-rest t v s at n is) in
     rw (a, b, c, ls, ne-eqb (t .rcnm) 100 (λ e. omega arith)) (bare-is (t .rcnm) (t .rcid) (t .version) (t .prim) (t .grup) (t .objl) (t .foid) (t .lists) (v .bare))
 
-pub feature-back : (t : Item) {aall nall : ℕ} → Feature aall nall t → (s : List ℕ) (at : ℕ) (n : ℕ) → piecesAt s at ≡ featurePieces n t → itemAt s at ≡ t
+pub feature-back : (t : Item) {aall nall : ℕ} → Feature false aall nall t → (s : List ℕ) (at : ℕ) (n : ℕ) → piecesAt s at ≡ featurePieces n t → itemAt s at ≡ t
 unfolding rcnmAt rcidAt versionAt primAt grupAt objlAt foidAt ofFeature isFeature featurePieces isIn allOf rowOf table
 feature-back t f s at n is =
     let r = feature-id t f in

@@ -2,10 +2,11 @@
 use Prim.Native.Nat.{ℕ, _+_, _≤_, _<_}
 use mathlib.Core.Bool.{true, false}
 use mathlib.Core.List.{List, [], _∷_, _++_}
-use mathlib.Core.Path.{_≡_, refl, ap}
+use mathlib.Core.Path.{_≡_, refl}
 use native.Mathlib.Omega.{arith}
 use lib.ListN.{length}
 use borrow.Author.Tests.{le-leb}
+use Rattle.octets.proofs.ListLaws.{has-self}
 use Rattle.octets.specs.Number.{byteAt, numAt, bytesOf}
 use Rattle.octets.specs.Area.{Has}
 use Rattle.octets.proofs.AreaLaws.{has-left, has-right, has-head}
@@ -17,9 +18,6 @@ use Rattle.values.specs.Frid.{primGood, fridFault}
 use Rattle.values.specs.Class.{objlGood}
 use Rattle.items.specs.Item.{Item}
 use Rattle.itemfields.specs.Fields.{vridBytes, fridBytes}
-
-pub has-self : (xs : List ℕ) → Has xs 0 xs
-has-self xs = record { room = omega arith; byte = λ k h. ap (λ (i : ℕ). byteAt xs i) (omega arith) }
 
 -- ---- VRID
 pub record VridRead (v : List ℕ) (t : Item) : Type 0 where

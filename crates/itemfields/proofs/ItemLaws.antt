@@ -9,7 +9,7 @@ use native.Mathlib.Omega.{arith}
 use lib.ListN.{length, getD, length-append}
 use lib.Dec.{eqb}
 use borrow.Author.Tests.{eqb-true}
-use Rattle.octets.proofs.Tests.{both, all3}
+use Rattle.octets.proofs.Tests.{both, all3, or-cases}
 use Rattle.iso8211.specs.Field.{countAt, FieldsIn}
 use Rattle.table.specs.Table.{table, rowOf, tagOf, kindOf, among, asNumber, first, VRID, FRID, FOID}
 use Rattle.table.specs.Text.{bytes}
@@ -27,7 +27,7 @@ use Rattle.itemfields.specs.Fields.{piece, listPiece, listPieces, vector
 use Rattle.itemfields.specs.Good.{Vector, Feature}
 use Rattle.itemfields.proofs.ViewLaws.{count-seen, piece-seen, tag-seen}
 use Rattle.itemfields.proofs.LaidLaws.{Declared}
-use Rattle.itemfields.proofs.FieldsLaws.{or-cases, laid-vector, laid-feature, vector-back, feature-back}
+use Rattle.itemfields.proofs.FieldsLaws.{laid-vector, laid-feature, vector-back, feature-back}
 
 -- ---- laid out
 -- each field of those that are laid out is filled by its subfields
@@ -83,7 +83,7 @@ class-cases x h =
     (or-cases _ _ h)
 
 module _ (s : List ℕ) (at n : ℕ) (t : Item) {aall nall : ℕ} (inside : FieldsIn s at) where
-  module _ (v : Vector aall nall t) (is : piecesAt s at ≡ vectorPieces n t) where
+  module _ (v : Vector false aall nall t) (is : piecesAt s at ≡ vectorPieces n t) where
     pub vector-laid : {marks : List ℕ} → Declared marks → LaidOut s at
     vector-laid {marks} d = laid-pieces false 2 marks (vectorPieces n t) inside is (vector-few n t .0) (laid-vector n t v d)
 
@@ -94,7 +94,7 @@ module _ (s : List ℕ) (at n : ℕ) (t : Item) {aall nall : ℕ} (inside : Fiel
     pub vector-known : {marks : List ℕ} → Declared marks → Identified s at
     vector-known d = vector-identified s at (vector-laid d) vector-kind (class-cases (rcnmAt s at) (ap (λ (o : Item). isVector (o .rcnm)) (vector-back t v s at n is) ∙ v .class))
 
-  module _ (f : Feature aall nall t) (is : piecesAt s at ≡ featurePieces n t) where
+  module _ (f : Feature false aall nall t) (is : piecesAt s at ≡ featurePieces n t) where
     pub feature-laid : {marks : List ℕ} → Declared marks → LaidOut s at
     feature-laid {marks} d = laid-pieces false 2 marks (featurePieces n t) inside is (omega (arith, feature-few n t .0)) (laid-feature 2 n t (inl refl) f d)
 

@@ -1,11 +1,13 @@
 -- The kinds of lists, as the held form orders them: each fact computed from the table. Assumes nothing.
 use Prim.Native.Nat.{ℕ, _≤_}
-use mathlib.Core.Bool.{Bool, true, false}
+use mathlib.Core.Bool.{Bool, true, false, not, _&&_, _||_}
 use mathlib.Core.List.{List, [], _∷_}
 use mathlib.Core.Path.{_≡_, refl}
-use native.Mathlib.Omega.{arith}
-use lib.Dec.{eqb}
-use Rattle.table.specs.Table.{table, rowOf, tagOf, kindOf, among, asNumber, DSID, DSSI, DSPM, VRID, ATTV, VRPT, SG2D, SG3D, FRID, FOID, ATTF, NATF, FFPT, FSPT}
+use lib.Dec.{eqb, leb}
+use borrow.Author.Tests.{eqb-true, leb-true, not-true}
+use Rattle.octets.proofs.Tests.{both, all4, implied}
+use Rattle.entries.specs.declared.Shape.{Shape}
+use Rattle.table.specs.Table.{table, rowOf, tagOf, kindOf, among, asNumber, DSID, DSSI, DSPM, VRID, ATTV, VRPT, SG2D, SG3D, FRID, FOID, ATTF, NATF, FFPT, FSPT, first}
 use Rattle.table.specs.Text.{bytes}
 use Rattle.layout.specs.Layout.{follows, placed, mayEnd, shapeOf}
 use Rattle.attributes.specs.Attributes.{attribute, pointer}
@@ -14,7 +16,7 @@ use Rattle.fieldvalue.specs.Value.{isAttributes}
 -- k is a kind of list
 pub record ListKind (k : ℕ) : Type 0 where
   pub named : kindOf (tagOf k) ≡ k
-  pub few : k ≤ 18
+  pub few : k ≤ first
   pub list : rowOf k .list ≡ true
   pub free : rowOf k .control ≡ false
   pub no-dsid : eqb k DSID ≡ false
@@ -25,144 +27,78 @@ pub record ListKind (k : ℕ) : Type 0 where
   pub attributes : isAttributes k ≡ true → shapeOf k ≡ attribute
   pub pointers : eqb k FFPT ≡ true → shapeOf k ≡ pointer
 
-never : {A : Type 0} → false ≡ true → A
-never h = absurd (let z : _≡_ {A = ℕ} 0 1 = cc in omega arith)
+-- all of it in one test
+unfoldable sameShape : Shape → Shape → Bool
+sameShape a b = eqb (a .fixed) (b .fixed) && eqb (a .unit) (b .unit)
+
+unfoldable isListKind : ℕ → Bool
+isListKind k =
+    (eqb (kindOf (tagOf k)) k && (leb k first && (rowOf k .list && not (rowOf k .control))))
+    && ((not (eqb k DSID) && (not (eqb k DSSI) && (not (eqb k DSPM) && (not (eqb k VRID) && not (eqb k FRID)))))
+    && ((not (isAttributes k) || sameShape (shapeOf k) attribute) && (not (eqb k FFPT) || sameShape (shapeOf k) pointer)))
+
+shape-told : (a b : Shape) → sameShape a b ≡ true → a ≡ b
+unfolding sameShape
+shape-told a b h = let p = both (eqb (a .fixed) (b .fixed)) (eqb (a .unit) (b .unit)) h in parts (eqb-true _ _ (p .0)) (eqb-true _ _ (p .1))
+  where
+    parts : {f g u v : ℕ} → f ≡ g → u ≡ v → _≡_ {A = Shape} (record { fixed = f; unit = u }) (record { fixed = g; unit = v })
+    parts e d = rw (e, d)
+
+list-kind : (k : ℕ) → isListKind k ≡ true → ListKind k
+unfolding isListKind
+list-kind k h =
+    let p = both (eqb (kindOf (tagOf k)) k && (leb k first && (rowOf k .list && not (rowOf k .control)))) _ h in
+    let row = all4 (eqb (kindOf (tagOf k)) k) (leb k first) (rowOf k .list) (not (rowOf k .control)) (p .0) in
+    let q = both (not (eqb k DSID) && (not (eqb k DSSI) && (not (eqb k DSPM) && (not (eqb k VRID) && not (eqb k FRID))))) _ (p .1) in
+    let head = all4 (not (eqb k DSID)) (not (eqb k DSSI)) (not (eqb k DSPM)) (not (eqb k VRID) && not (eqb k FRID)) (q .0) in
+    let item = both (not (eqb k VRID)) (not (eqb k FRID)) (head .3) in
+    let texts = both (not (isAttributes k) || sameShape (shapeOf k) attribute) (not (eqb k FFPT) || sameShape (shapeOf k) pointer) (q .1) in
+    record {
+      named = eqb-true _ _ (row .0);
+      few = leb-true _ _ (row .1);
+      list = row .2;
+      free = not-true _ (row .3);
+      no-dsid = not-true _ (head .0);
+      no-dssi = not-true _ (head .1);
+      no-dspm = not-true _ (head .2);
+      no-vrid = not-true _ (item .0);
+      no-frid = not-true _ (item .1);
+      attributes =
+          λ a. shape-told _ _ (implied (isAttributes k) _ (texts .0) a);
+      pointers = λ a. shape-told _ _ (implied (eqb k FFPT) _ (texts .1) a);
+    }
 
 pub attv : ListKind ATTV
-unfolding kindOf among tagOf rowOf table asNumber bytes isAttributes
-attv = record {
-  named = refl;
-  few = omega arith;
-  list = refl;
-  free = refl;
-  no-dsid = refl;
-  no-dssi = refl;
-  no-dspm = refl;
-  no-vrid = refl;
-  no-frid = refl;
-  attributes =
-      λ h. refl;
-  pointers = never;
-}
+unfolding isListKind sameShape kindOf among tagOf rowOf table asNumber bytes isAttributes
+attv = list-kind ATTV refl
 
 pub vrpt : ListKind VRPT
-unfolding kindOf among tagOf rowOf table asNumber bytes isAttributes
-vrpt = record {
-  named = refl;
-  few = omega arith;
-  list = refl;
-  free = refl;
-  no-dsid = refl;
-  no-dssi = refl;
-  no-dspm = refl;
-  no-vrid = refl;
-  no-frid = refl;
-  attributes =
-      never;
-  pointers = never;
-}
+unfolding isListKind sameShape kindOf among tagOf rowOf table asNumber bytes isAttributes
+vrpt = list-kind VRPT refl
 
 pub sg2d : ListKind SG2D
-unfolding kindOf among tagOf rowOf table asNumber bytes isAttributes
-sg2d = record {
-  named = refl;
-  few = omega arith;
-  list = refl;
-  free = refl;
-  no-dsid = refl;
-  no-dssi = refl;
-  no-dspm = refl;
-  no-vrid = refl;
-  no-frid = refl;
-  attributes =
-      never;
-  pointers = never;
-}
+unfolding isListKind sameShape kindOf among tagOf rowOf table asNumber bytes isAttributes
+sg2d = list-kind SG2D refl
 
 pub sg3d : ListKind SG3D
-unfolding kindOf among tagOf rowOf table asNumber bytes isAttributes
-sg3d = record {
-  named = refl;
-  few = omega arith;
-  list = refl;
-  free = refl;
-  no-dsid = refl;
-  no-dssi = refl;
-  no-dspm = refl;
-  no-vrid = refl;
-  no-frid = refl;
-  attributes =
-      never;
-  pointers = never;
-}
+unfolding isListKind sameShape kindOf among tagOf rowOf table asNumber bytes isAttributes
+sg3d = list-kind SG3D refl
 
 pub attf : ListKind ATTF
-unfolding kindOf among tagOf rowOf table asNumber bytes isAttributes
-attf = record {
-  named = refl;
-  few = omega arith;
-  list = refl;
-  free = refl;
-  no-dsid = refl;
-  no-dssi = refl;
-  no-dspm = refl;
-  no-vrid = refl;
-  no-frid = refl;
-  attributes =
-      λ h. refl;
-  pointers = never;
-}
+unfolding isListKind sameShape kindOf among tagOf rowOf table asNumber bytes isAttributes
+attf = list-kind ATTF refl
 
 pub natf : ListKind NATF
-unfolding kindOf among tagOf rowOf table asNumber bytes isAttributes
-natf = record {
-  named = refl;
-  few = omega arith;
-  list = refl;
-  free = refl;
-  no-dsid = refl;
-  no-dssi = refl;
-  no-dspm = refl;
-  no-vrid = refl;
-  no-frid = refl;
-  attributes =
-      λ h. refl;
-  pointers = never;
-}
+unfolding isListKind sameShape kindOf among tagOf rowOf table asNumber bytes isAttributes
+natf = list-kind NATF refl
 
 pub ffpt : ListKind FFPT
-unfolding kindOf among tagOf rowOf table asNumber bytes isAttributes
-ffpt = record {
-  named = refl;
-  few = omega arith;
-  list = refl;
-  free = refl;
-  no-dsid = refl;
-  no-dssi = refl;
-  no-dspm = refl;
-  no-vrid = refl;
-  no-frid = refl;
-  attributes =
-      never;
-  pointers = λ h. refl;
-}
+unfolding isListKind sameShape kindOf among tagOf rowOf table asNumber bytes isAttributes
+ffpt = list-kind FFPT refl
 
 pub fspt : ListKind FSPT
-unfolding kindOf among tagOf rowOf table asNumber bytes isAttributes
-fspt = record {
-  named = refl;
-  few = omega arith;
-  list = refl;
-  free = refl;
-  no-dsid = refl;
-  no-dssi = refl;
-  no-dspm = refl;
-  no-vrid = refl;
-  no-frid = refl;
-  attributes =
-      never;
-  pointers = never;
-}
+unfolding isListKind sameShape kindOf among tagOf rowOf table asNumber bytes isAttributes
+fspt = list-kind FSPT refl
 
 -- a list of kind k may stand behind a field of kind prev, whatever record is due
 pub record Behind (prev k : ℕ) : Type 0 where

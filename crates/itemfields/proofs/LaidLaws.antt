@@ -8,14 +8,14 @@ use native.Mathlib.Omega.{arith}
 use lib.ListN.{length, getD}
 use lib.Dec.{eqb}
 use borrow.Author.Tests.{eq-eqb}
+use Rattle.octets.specs.Lists.{isIn}
 use Rattle.octets.proofs.Cases.{true-or-false}
-use Rattle.octets.proofs.Tests.{all3}
+use Rattle.octets.proofs.Tests.{all3, never}
 use Rattle.entries.specs.Entries.{Each}
 use Rattle.entries.proofs.EntriesLaws.{cut-joined, joined-whole, whole-told}
-use Rattle.table.specs.Table.{rowOf, FFPT}
+use Rattle.table.specs.Table.{rowOf, FFPT, first}
 use Rattle.layout.specs.Layout.{filled, shapeOf}
 use Rattle.attributes.specs.Attributes.{attribute, pointer, attributesFrom, attributesFault, ffptFrom, ffptFault, labelOf, metLabel, valueGood, rindGood, commentOf}
-use Rattle.words.specs.Order.{isIn}
 use Rattle.headvalues.specs.Text.{textGood}
 use Rattle.entries.specs.Rules.{through}
 use Rattle.fieldvalue.specs.Value.{isAttributes, isHigh, fieldFault, seenBefore, seenAfter}
@@ -34,7 +34,7 @@ filled-list {k} e es kind each =
 -- ---- lists are laid out
 -- every field but a control is declared
 pub record Declared (marks : List ℕ) : Type 0 where
-  pub is : (k : ℕ) → k ≤ 18 → rowOf k .control ≡ false → getD marks k 0 ≡ 1
+  pub is : (k : ℕ) → k ≤ first → rowOf k .control ≡ false → getD marks k 0 ≡ 1
 
 laid-list : (update : Bool) (stage : ℕ) {marks : List ℕ} {prev k : ℕ} (es : List (List ℕ)) (rest : List Piece) → Declared marks → ListKind k → Behind prev k → Each (shapeOf k) es
     → laidIn update stage marks prev rest ≡ true → laidIn update stage marks k rest ≡ true → laidIn update stage marks prev (listPiece k es ++ rest) ≡ true
@@ -52,9 +52,6 @@ laid-lists update stage ls d each (chain-more {k = k} {ks = ks} kind b here ther
     laid-list update stage (ls k) (listPieces ks ls) d kind b (each k) (laid-lists update stage ls d each here) (laid-lists update stage ls d each there)
 
 -- ---- attributes and pointers: a fault is none exactly where the entries are good
-never : {A : Type 0} → false ≡ true → A
-never h = absurd (let z : _≡_ {A = ℕ} 0 1 = cc in omega arith)
-
 three : (a b c : Bool) → cond a false (b && c) ≡ true → (a ≡ false) × (b ≡ true) × (c ≡ true)
 three true b c h = never h
 three false true c h = (refl, refl, h)

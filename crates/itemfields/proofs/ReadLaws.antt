@@ -9,15 +9,15 @@ use native.Mathlib.Omega.{arith}
 use lib.ListN.{length, getD}
 use lib.Dec.{eqb, leb}
 use borrow.Author.Tests.{eq-eqb, ne-eqb, eqb-true, eqb-false, leb-true}
+use Rattle.octets.proofs.ListLaws.{allBelow, all-below}
+use Rattle.octets.specs.Lists.{isIn}
 use Rattle.octets.specs.Number.{byteAt, numAt}
-use Rattle.octets.proofs.Cases.{true-or-false, eq-or-ne}
-use Rattle.octets.proofs.Tests.{both}
+use Rattle.octets.proofs.Cases.{true-or-false, eq-or-ne, le-or-lt}
+use Rattle.octets.proofs.Tests.{both, or-cases, never}
 use Rattle.iso8211.specs.Field.{fieldAt}
-use Rattle.words.specs.Order.{isIn}
-use Rattle.entries.specs.Entries.{Each}
 use Rattle.entries.specs.Entries.Each.{each-none}
 use Rattle.entries.proofs.EntriesLaws.{each-entries, entries-nil}
-use Rattle.table.specs.Table.{rowOf, table, first, VRID, ATTV, VRPT, SG2D, SG3D, FRID, FOID, ATTF, NATF, FFPT, FSPT}
+use Rattle.table.specs.Table.{rowOf, table, first, VRID, ATTV, VRPT, SG2D, SG3D, FRID, FOID, ATTF, NATF, FFPT, FSPT, Row}
 use Rattle.table.proofs.TableLaws.{row-past}
 use Rattle.values.specs.Fault.{faultAt}
 use Rattle.values.specs.Fault as fault
@@ -39,7 +39,7 @@ use Rattle.itemfields.specs.Fields.{vectorKinds, featureKinds}
 use Rattle.itemfields.specs.Good.{Lists, Vector, Feature}
 use Rattle.itemfields.proofs.KindLaws.{ListKind, attv, vrpt, sg2d, sg3d, attf, natf, ffpt, fspt}
 use Rattle.itemfields.proofs.ViewLaws.{list-seen}
-use Rattle.itemfields.proofs.FieldsLaws.{or-cases, id-seen, at-front, class-small}
+use Rattle.itemfields.proofs.FieldsLaws.{id-seen, at-front, class-small}
 use Rattle.itemfields.proofs.JoinLaws.{step, absent, list-join}
 
 -- ---- numbers of bytes
@@ -72,9 +72,6 @@ pub record Opened (update : Bool) (stage : ℕ) (marks : List ℕ) (aall nall : 
   pub seen : List ℕ
   pub fine : fieldFault update aall nall (kindIn two) (seenBefore (kindIn one) (kindIn two) seen) (two .content) ≡ 0
   pub valued : valuedIn update aall nall (kindIn two) (seenAfter (kindIn two) (seenBefore (kindIn one) (kindIn two) seen) (two .content)) rest ≡ true
-
-pub never : {A : Type 0} → false ≡ true → A
-never h = absurd (let z : _≡_ {A = ℕ} 0 1 = cc in omega arith)
 
 pub opened : (update : Bool) (stage : ℕ) (marks : List ℕ) (aall nall : ℕ) (fs : List Piece) → 1 ≤ length fs → laidIn update stage marks start fs ≡ true
     → valuedIn update aall nall start [] fs ≡ true → Opened update stage marks aall nall fs
@@ -154,41 +151,26 @@ version-range c i h = leb-true 1 (numAt c i 2) h
 
 -- ---- lists
 -- kinds of lists: those of group 2 and 3
-unfoldable pub allBelow : ℕ → (ℕ → Bool) → Bool
-allBelow zero rule = true
-allBelow (suc n) rule = rule n && allBelow n rule
-
-pub kinds-keep : (rule : ℕ → Bool) (n k : ℕ) → allBelow n rule ≡ true → k < n → rule k ≡ true
-unfolding allBelow
-kinds-keep rule zero k all h = absurd (omega arith)
-kinds-keep rule (suc n) k all h =
-    let p = both (rule n) (allBelow n rule) all in
-    ⊎-elim (λ (same : k ≡ n). rw same (p .0)) (λ (other : k ≡ n → ⊥). kinds-keep rule n k (p .1) (omega arith)) (eq-or-ne k n)
-
-list-few : (k : ℕ) → rowOf k .list ≡ true → k < 18
+list-few : (k : ℕ) → rowOf k .list ≡ true → k < first
 unfolding rowOf table
-list-few k h =
-    ⊎-elim (λ (l : k < 18). l) (λ (l : 18 ≤ k). never (ap (λ (r : Rattle.table.specs.Table.Row). r .list) (sym (row-past k l)) ∙ h)) (lt-or-le k)
-  where
-    lt-or-le : (n : ℕ) → (n < 18) ⊎ (18 ≤ n)
-    lt-or-le n = ⊎-elim (λ (l : 18 ≤ n). inr l) (λ (l : n < 18). inl l) (Rattle.octets.proofs.Cases.le-or-lt 18 n)
+list-few k h = ⊎-elim (λ (l : first ≤ k). never (ap (λ (r : Row). r .list) (sym (row-past k l)) ∙ h)) (λ (l : k < first). l) (le-or-lt first k)
 
-implied : (a b c : Bool) → (not (a && b) || c) ≡ true → a ≡ true → b ≡ true → c ≡ true
-implied true true c h p q = h
-implied true false c h p q = never q
-implied false b c h p q = never p
+implied-both : (a b c : Bool) → (not (a && b) || c) ≡ true → a ≡ true → b ≡ true → c ≡ true
+implied-both true true c h p q = h
+implied-both true false c h p q = never q
+implied-both false b c h p q = never p
 
 vector-kinds : (k : ℕ) → rowOf k .list ≡ true → rowOf k .group ≡ 2 → isIn k vectorKinds ≡ true
 unfolding allBelow rowOf table isIn
 vector-kinds k list group =
-    implied (rowOf k .list) (eqb (rowOf k .group) 2) (isIn k vectorKinds)
-    (kinds-keep (λ j. not (rowOf j .list && eqb (rowOf j .group) 2) || isIn j vectorKinds) 18 k refl (list-few k list)) list (eq-eqb _ _ group)
+    implied-both (rowOf k .list) (eqb (rowOf k .group) 2) (isIn k vectorKinds)
+    (all-below (λ j. not (rowOf j .list && eqb (rowOf j .group) 2) || isIn j vectorKinds) first k refl (list-few k list)) list (eq-eqb _ _ group)
 
 feature-kinds : (k : ℕ) → rowOf k .list ≡ true → rowOf k .group ≡ 3 → isIn k featureKinds ≡ true
 unfolding allBelow rowOf table isIn
 feature-kinds k list group =
-    implied (rowOf k .list) (eqb (rowOf k .group) 3) (isIn k featureKinds)
-    (kinds-keep (λ j. not (rowOf j .list && eqb (rowOf j .group) 3) || isIn j featureKinds) 18 k refl (list-few k list)) list (eq-eqb _ _ group)
+    implied-both (rowOf k .list) (eqb (rowOf k .group) 3) (isIn k featureKinds)
+    (all-below (λ j. not (rowOf j .list && eqb (rowOf j .group) 3) || isIn j featureKinds) first k refl (list-few k list)) list (eq-eqb _ _ group)
 
 of-four : (a b c d k : ℕ) → ListKind a → ListKind b → ListKind c → ListKind d → isIn k (a ∷ b ∷ c ∷ d ∷ []) ≡ true → ListKind k
 unfolding isIn
@@ -229,18 +211,12 @@ good-empty update aall nall k =
     ⊎-elim (λ (a : isAttributes k ≡ true). rw a) (λ (a : isAttributes k ≡ false). ⊎-elim (λ (b : eqb k FFPT ≡ true). rw (a, b)) (λ (b : eqb k FFPT ≡ false). rw (a, b))
     (true-or-false (eqb k FFPT))) (true-or-false (isAttributes k))
 
--- lists of these kinds alone, of whole entries, with values that are good in a cell or in an update
-pub record ListsRead (update : Bool) (aall nall : ℕ) (kinds : List ℕ) (ls : ℕ → List (List ℕ)) : Type 0 where
-  pub each : (k : ℕ) → Each (shapeOf k) (ls k)
-  pub only : (k : ℕ) → isIn k kinds ≡ false → ls k ≡ []
-  pub good : (k : ℕ) → listGood update aall nall k (ls k) ≡ true
-
 -- the lists of a record behind its identifier fields, the last of kind prev
 lists-told : (update : Bool) (stage : ℕ) (marks : List ℕ) (aall nall prev : ℕ) (kinds seen : List ℕ) (s : List ℕ) (at : ℕ) (fs rest : List Piece) → piecesAt s at ≡ fs → ((k : ℕ)
     → rowOf k .list ≡ true → listIn k fs ≡ listIn k rest)
     → rowOf prev .group ≤ 3 → rowOf prev .list ≡ false → ((k : ℕ) → rowOf k .list ≡ true → rowOf k .group ≡ rowOf prev .group → isIn k kinds ≡ true) → ((k : ℕ)
     → isIn k kinds ≡ true → ListKind k)
-    → laidIn update stage marks prev rest ≡ true → valuedIn update aall nall prev seen rest ≡ true → ListsRead update aall nall kinds (listOf s at)
+    → laidIn update stage marks prev rest ≡ true → valuedIn update aall nall prev seen rest ≡ true → Lists update aall nall kinds (listOf s at)
 unfolding listOf entriesAt
 lists-told update stage marks aall nall prev kinds seen s at fs rest is head low single within kind laid valued = record {
   each = λ k. ⊎-elim (λ (l : rowOf k .list ≡ true). rw l (each-entries (shapeOf k) (listAt s at k))) (λ (l : rowOf k .list ≡ false). rw l each-none)
@@ -300,29 +276,11 @@ foided update stage marks aall nall seen (f ∷ fs) laid valued =
 
 -- a vector, and a feature, of a record with this RUIN
 pub record VectorRead (update : Bool) (aall nall ruin : ℕ) (t : Item) : Type 0 where
-  pub class : isVector (t .rcnm) ≡ true
-  pub id-low : 1 ≤ t .rcid
-  pub id-high : t .rcid ≤ 4294967294
-  pub version-low : 1 ≤ t .version
-  pub version-high : t .version ≤ 65535
-  pub bare : (t .prim ≡ 0) × (t .grup ≡ 0) × (t .objl ≡ 0) × (t .foid ≡ 0)
-  pub lists : ListsRead update aall nall vectorKinds (t .lists)
-  pub either : (t .lists SG2D ≡ []) ⊎ (t .lists SG3D ≡ [])
+  pub item : Vector update aall nall t
   pub ruin-good : ruinGood update ruin ≡ true
 
 pub record FeatureRead (update : Bool) (aall nall ruin : ℕ) (t : Item) : Type 0 where
-  pub class : t .rcnm ≡ 100
-  pub id-low : 1 ≤ t .rcid
-  pub id-high : t .rcid ≤ 4294967294
-  pub version-low : 1 ≤ t .version
-  pub version-high : t .version ≤ 65535
-  pub prim-good : primGood (t .prim) ≡ true
-  pub prim-small : t .prim < 256
-  pub grup-small : t .grup < 256
-  pub objl-good : objlGood (t .objl) ≡ true
-  pub objl-small : t .objl < 65536
-  pub foid-small : t .foid < 18446744073709551616
-  pub lists : ListsRead update aall nall featureKinds (t .lists)
+  pub item : Feature update aall nall t
   pub ruin-good : ruinGood update ruin ≡ true
 
 module _ (update : Bool) (stage : ℕ) (marks : List ℕ) (aall nall : ℕ) (s : List ℕ) (at : ℕ) (small : (i : ℕ) → byteAt s i < 256)
@@ -351,17 +309,19 @@ module _ (update : Bool) (stage : ℕ) (marks : List ℕ) (aall nall : ℕ) (s :
       let head : (k : ℕ) → rowOf k .list ≡ true → listIn k fs ≡ listIn k (o .rest) =
       λ k l. other-past k first (o .one) (o .two ∷ o .rest) (o .head) refl l ∙ other-past k VRID (o .two) (o .rest) vrid refl l in
       record {
-        class = class;
-        id-low = rw b low;
-        id-high = rw b high;
-        version-low = rw (ne, d) v;
-        version-high = rw ne (omega arith);
-        bare = (rw ne, rw ne, rw ne, rw ne);
-        lists = lists-told update stage marks aall nall VRID vectorKinds _ s at fs (o .rest) is head (omega arith) refl vector-kinds
-            (λ k i. of-four ATTV VRPT SG2D SG3D k attv vrpt sg2d sg3d i) laid (rw vrid at (o .valued));
-        either = ⊎-elim (λ (e : listIn SG2D (o .rest) ≡ []). inl (empty-list s at SG2D fs (o .rest) is (head SG2D) e))
-            (λ (e : listIn SG3D (o .rest) ≡ []). inr (empty-list s at SG3D fs (o .rest) is (head SG3D) e))
-            (rivals update stage marks VRID SG2D SG3D (o .rest) refl (λ e. omega arith) (omega arith) laid);
+        item = record {
+          class = class;
+          id-low = rw b low;
+          id-high = rw b high;
+          version-low = rw (ne, d) v;
+          version-high = rw ne (omega arith);
+          bare = (rw ne, rw ne, rw ne, rw ne);
+          lists = lists-told update stage marks aall nall VRID vectorKinds _ s at fs (o .rest) is head (omega arith) refl vector-kinds
+              (λ k i. of-four ATTV VRPT SG2D SG3D k attv vrpt sg2d sg3d i) laid (rw vrid at (o .valued));
+          either = ⊎-elim (λ (e : listIn SG2D (o .rest) ≡ []). inl (empty-list s at SG2D fs (o .rest) is (head SG2D) e))
+              (λ (e : listIn SG3D (o .rest) ≡ []). inr (empty-list s at SG3D fs (o .rest) is (head SG3D) e))
+              (rivals update stage marks VRID SG2D SG3D (o .rest) refl (λ e. omega arith) (omega arith) laid);
+        };
         ruin-good = rw (ne, ru) (g .ruin);
       }
 
@@ -396,55 +356,28 @@ module _ (update : Bool) (stage : ℕ) (marks : List ℕ) (aall nall : ℕ) (s :
       λ k l. other-past k first (o .one) (o .two ∷ o .rest) (o .head) refl l ∙ other-past k FRID (o .two) (o .rest) frid refl l
       ∙ ap (listIn k) (ob .is) ∙ other-past k FOID (ob .three) (ob .rest) (ob .kind) refl l in
       record {
-        class = hundred;
-        id-low = rw b low;
-        id-high = rw b high;
-        version-low = rw (yes100, d) v;
-        version-high = rw yes100 (omega arith);
-        prim-good = rw (yes100, p) (g .prim);
-        prim-small = rw yes100 ps;
-        grup-small = rw yes100 gs;
-        objl-good = rw (yes100, j) (g .objl);
-        objl-small = rw yes100 js;
-        foid-small = rw yes100 fsmall;
-        lists = lists-told update stage marks aall nall FOID featureKinds _ s at fs (ob .rest) is head (omega arith) refl feature-kinds
-            (λ k i. of-four ATTF NATF FFPT FSPT k attf natf ffpt fspt i) (rw (ob .kind) at (ob .laid)) (rw (ob .kind) at (ob .valued));
+        item = record {
+          class = hundred;
+          id-low = rw b low;
+          id-high = rw b high;
+          version-low = rw (yes100, d) v;
+          version-high = rw yes100 (omega arith);
+          prim-good = rw (yes100, p) (g .prim);
+          prim-small = rw yes100 ps;
+          grup-small = rw yes100 gs;
+          objl-good = rw (yes100, j) (g .objl);
+          objl-small = rw yes100 js;
+          foid-small = rw yes100 fsmall;
+          lists = lists-told update stage marks aall nall FOID featureKinds _ s at fs (ob .rest) is head (omega arith) refl feature-kinds
+              (λ k i. of-four ATTF NATF FFPT FSPT k attf natf ffpt fspt i) (rw (ob .kind) at (ob .laid)) (rw (ob .kind) at (ob .valued));
+        };
         ruin-good = rw (yes100, ru) (g .ruin);
       }
 
 -- ---- those of a cell
-lists-held : {aall nall : ℕ} {kinds : List ℕ} {ls : ℕ → List (List ℕ)} → ListsRead false aall nall kinds ls → Lists aall nall kinds ls
-lists-held l = record { each = l .each; only = l .only; good = l .good }
-
 module _ (stage : ℕ) (marks : List ℕ) (aall nall : ℕ) (s : List ℕ) (at : ℕ) (small : (i : ℕ) → byteAt s i < 256) (o : Opened false stage marks aall nall (piecesAt s at)) where
-  pub vector-told : kindIn (o .two) ≡ VRID → Vector aall nall (itemAt s at)
-  vector-told vrid =
-      let v = vector-read false stage marks aall nall s at small o vrid in
-      record {
-        class = v .class;
-        id-low = v .id-low;
-        id-high = v .id-high;
-        version-low = v .version-low;
-        version-high = v .version-high;
-        bare = v .bare;
-        lists = lists-held (v .lists);
-        either = v .either;
-      }
+  pub vector-told : kindIn (o .two) ≡ VRID → Vector false aall nall (itemAt s at)
+  vector-told vrid = vector-read false stage marks aall nall s at small o vrid .item
 
-  pub feature-told : kindIn (o .two) ≡ FRID → Feature aall nall (itemAt s at)
-  feature-told frid =
-      let f = feature-read false stage marks aall nall s at small o frid in
-      record {
-        class = f .class;
-        id-low = f .id-low;
-        id-high = f .id-high;
-        version-low = f .version-low;
-        version-high = f .version-high;
-        prim-good = f .prim-good;
-        prim-small = f .prim-small;
-        grup-small = f .grup-small;
-        objl-good = f .objl-good;
-        objl-small = f .objl-small;
-        foid-small = f .foid-small;
-        lists = lists-held (f .lists);
-      }
+  pub feature-told : kindIn (o .two) ≡ FRID → Feature false aall nall (itemAt s at)
+  feature-told frid = feature-read false stage marks aall nall s at small o frid .item

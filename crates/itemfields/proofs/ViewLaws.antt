@@ -8,6 +8,7 @@ use native.Mathlib.Nat.{add-zero}
 use native.Mathlib.Omega.{arith}
 use lib.ListN.{length, getD, length-take}
 use lib.Dec.{eqb}
+use Rattle.octets.proofs.ListLaws.{part-number}
 use Rattle.octets.specs.Number.{numAt}
 use Rattle.octets.proofs.Cases.{true-or-false}
 use Rattle.octets.proofs.Tests.{both}
@@ -17,7 +18,6 @@ use Rattle.iso8211.specs.Premises.{RecordIn}
 use Rattle.iso8211.specs.declared.field.Field.{Field}
 use Rattle.table.specs.Table.{kindOf}
 use Rattle.layout.specs.Layout.{mayEnd, fieldLaid, laidFrom, layoutFault, start, contentOf}
-use Rattle.attributes.proofs.PartLaws.{part-number}
 use Rattle.fieldvalue.specs.Value.{fieldFault, seenBefore, seenAfter, valuesFrom, valueFault}
 use Rattle.items.specs.Lists.{partAt, joinFrom, listAt}
 use Rattle.records.specs.Pieces.{Piece}

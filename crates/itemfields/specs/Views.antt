@@ -5,8 +5,8 @@ use mathlib.Core.Bool.{Bool, true, false, cond, _&&_}
 use mathlib.Core.List.{List, [], _∷_, _++_}
 use lib.ListN.{getD}
 use lib.Dec.{eqb}
+use Rattle.octets.specs.Lists.{isIn}
 use Rattle.table.specs.Table.{kindOf, FFPT}
-use Rattle.words.specs.Order.{isIn}
 use Rattle.layout.specs.Layout.{placed, mayEnd, filled}
 use Rattle.attributes.specs.Attributes.{labelOf, valueGood, rindGood, commentOf}
 use Rattle.headvalues.specs.Text.{textGood}

@@ -13,7 +13,7 @@ use Rattle.iso8211.specs.Field.{fieldAt}
 use Rattle.iso8211.specs.declared.field.Field.{Field}
 use Rattle.items.specs.Premises.{Identified, Featured}
 use Rattle.items.specs.Identity.{idAt, rcnmAt, rcidAt, primAt, objlAt, foidAt, rankOf, versionAt, ruinAt, nameFrom, nameAt, wordFor}
-use Rattle.items.specs.Word.{nameOf, wordOffset}
+use Rattle.items.specs.Word.{nameOf, wordOffset, name-weight}
 
 -- ---- classes
 few : (a b c : Bool) → cond a 0 (cond b 1 (cond c 2 3)) ≤ 3
@@ -48,15 +48,15 @@ unfolding nameFrom
 name-small rcnm rcid h = omega (arith, rank-few rcnm)
 
 -- ---- a word's name and place
-pub word-name : (s : List ℕ) (at : ℕ) → at < 16777216 → nameOf (wordFor s at) ≡ nameAt s at
+pub word-name : (s : List ℕ) (at : ℕ) → at < name-weight → nameOf (wordFor s at) ≡ nameAt s at
 unfolding wordFor
 word-name s at h = omega arith
 
-pub word-offset : (s : List ℕ) (at : ℕ) → at < 16777216 → wordOffset (wordFor s at) ≡ at
+pub word-offset : (s : List ℕ) (at : ℕ) → at < name-weight → wordOffset (wordFor s at) ≡ at
 unfolding wordFor
 word-offset s at h = omega arith
 
-pub word-small : (s : List ℕ) (at : ℕ) → at < 16777216 → rcidAt s at < 4294967296 → wordFor s at < 18446744073709551616
+pub word-small : (s : List ℕ) (at : ℕ) → at < name-weight → rcidAt s at < 4294967296 → wordFor s at < 18446744073709551616
 unfolding wordFor nameAt
 word-small s at h small = omega (arith, name-small (rcnmAt s at) (rcidAt s at) small)
 
@@ -135,6 +135,6 @@ name-read s at rank rcnm rcid a b c small =
     let e : rank ≡ rankOf (rcnmAt s at) = b ∙ ap rankOf a in
     (rw (e, c), omega (arith, b, rank-few rcnm))
 
-pub word-read : (s : List ℕ) (at name : ℕ) → name ≡ nameAt s at → name * 16777216 + at ≡ wordFor s at
+pub word-read : (s : List ℕ) (at name : ℕ) → name ≡ nameAt s at → name * name-weight + at ≡ wordFor s at
 unfolding wordFor
 word-read s at name e = rw e

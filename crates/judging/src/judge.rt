@@ -7,9 +7,12 @@ use octets::area::clear;
 use reader::fault::cell_fault;
 use reader::front::Front;
 use reader::front::opened;
+use readonce::cell::Read;
+use readonce::cell::cell_once;
 use topology::topology_fault;
 ghost use Rattle.reader.specs.Reader.{frontOf};
 ghost use Rattle.reader.specs.Lent.{WorkOpened};
+ghost use Rattle.readonce.specs.Once.{CellRead};
 use answers::Answer;
 use answers::Refusal;
 use answers::answer::answered;
@@ -43,21 +46,43 @@ fn judged(cell: &[u8], n: usize, work: &mut [u8]) -> Answer
     filed(1, cell_verdict(cell, n, work))
 }
 
+// The same, of a cell that is read again, stage by stage, for the one refusal.
+fn judged_again(cell: &[u8], work: &mut [u8]) -> Answer
+    ensures { λ r. ⌜ r ≡ judgeOf (now (cell .entry)) (length (now (work .entry))) ⌝ }
+{
+    let front = opened(cell, 1);
+    match front {
+        Front::Refused(a) => a,
+        Front::Count(n) => judged(cell, n, work),
+    }
+}
+
+// Codes 17 to 19 of a cell of n records that one pass read: the pass found none of the codes before them.
+pub fn verdict_once(cell: &[u8], n: usize, work: &mut [u8]) -> Refusal
+    requires { ⌜ CellRead (now cell) n (now work) ⌝ }
+    ensures { λ r. ⌜ r ≡ cellVerdict (now (cell .entry)) n ⌝ }
+    ensures { λ r. ⌜ (r .code ≡ 0 → HeldIn (now (cell .entry)) n (now (work .exit))) ⌝ }
+{
+    topology_fault(cell, n, work)
+}
+
+// The verdict: in one pass where that suffices.
+fn judged_once(cell: &[u8], work: &mut [u8]) -> Answer
+    ensures { λ r. ⌜ r ≡ judgeOf (now (cell .entry)) (length (now (work .entry))) ⌝ }
+{
+    let read = cell_once(cell, work);
+    match read {
+        Read::All(n) => filed(1, verdict_once(cell, n, work)),
+        Read::Not => judged_again(cell, work),
+    }
+}
+
 // The verdict on a cell. The work area is zero afterwards.
 pub fn judge(cell: &[u8], work: &mut [u8]) -> Answer
     ensures { λ r. ⌜ r ≡ judgeOf (now (cell .entry)) (length (now (work .entry))) ⌝ }
     ensures { λ _. ⌜ now (work .exit) ≡ replicate (length (now (work .entry))) 0 ⌝ }
 {
-    let front = opened(cell, 1);
-    match front {
-        Front::Refused(a) => {
-            clear(work);
-            a
-        }
-        Front::Count(n) => {
-            let a = judged(cell, n, work);
-            clear(work);
-            a
-        }
-    }
+    let a = judged_once(cell, work);
+    clear(work);
+    a
 }

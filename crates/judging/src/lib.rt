@@ -4,3 +4,6 @@ pub mod judge;
 
 // Codes 4 to 8, then 17 to 19, of a framed cell of n records.
 pub use judge::cell_verdict;
+
+// The same of a cell that one pass read.
+pub use judge::verdict_once;

@@ -1,7 +1,7 @@
 -- The edit by labels whole: the numbers of the table say which of the update's attributes are new and which removals find nothing, the
 -- edited list has no more bytes than both lists together, and the table is blank again. Assumes nothing.
 use Prim.Native.Nat.{ℕ, _+_, _≤_, _<_}
-use mathlib.Core.Bool.{Bool, true, false, not, cond, _||_}
+use mathlib.Core.Bool.{Bool, true, false, not, cond}
 use mathlib.Core.List.{List, [], _∷_, _++_, flatten, append-nil}
 use mathlib.Core.Logic.{⊎-elim}
 use mathlib.Core.Path.{_≡_, refl, sym, ap, _∙_}
@@ -12,7 +12,7 @@ use borrow.Author.Tests.{eq-eqb, ne-eqb, eqb-true, eqb-false, ltb-true, not-true
 use Rattle.octets.specs.Area.{Wrote}
 use Rattle.octets.proofs.AreaLaws.{wrote-join, wrote-as, wrote-length}
 use Rattle.octets.proofs.Cases.{true-or-false, le-or-lt}
-use Rattle.octets.proofs.Tests.{both}
+use Rattle.octets.proofs.Tests.{both, or-right}
 use Rattle.entries.specs.Entries.{entriesOf}
 use Rattle.entries.specs.Rules.{allOf}
 use Rattle.entries.proofs.EntriesLaws.{flatten-append, end-within}
@@ -23,10 +23,6 @@ use Rattle.splice.specs.Put.{ListPut}
 use Rattle.labelled.specs.Table.{Labelled, Blank, placeIn, isLow, Indexed, Passed, used, cleared, newBy, foundOf, foundBy}
 use Rattle.splice.proofs.PutLaws.{never}
 use Rattle.labelled.proofs.FoundLaws.{place-unnamed, place-none, found}
-
-or-right : (a b : Bool) → b ≡ true → (a || b) ≡ true
-or-right true b h = refl
-or-right false b h = h
 
 same-both : (b : Bool) (x : ℕ) → cond b x x ≡ x
 same-both true x = refl

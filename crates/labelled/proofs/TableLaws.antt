@@ -10,13 +10,13 @@ use lib.ListN.{length, take, drop, getD, set, replicate, length-set, length-repl
 use lib.Seq.{getD-set-same, getD-set-other, ext-getD}
 use lib.Dec.{eqb}
 use borrow.Author.Tests.{eq-eqb, ne-eqb, lt-ltb, eqb-true, not-true}
+use Rattle.octets.proofs.ListLaws.{part-long}
 use Rattle.octets.proofs.Cases.{true-or-false, eq-or-ne, le-or-lt}
 use Rattle.octets.proofs.Tests.{both}
 use Rattle.entries.specs.Entries.{entryLen, entriesOf}
 use Rattle.entries.specs.Rules.{allOf}
 use Rattle.entries.proofs.WalkLaws.{walk-end, walk-more}
 use Rattle.attributes.specs.Attributes.{attribute, labelOf}
-use Rattle.attributes.proofs.PartLaws.{part-long}
 use Rattle.edits.specs.AttributeEdit.{named}
 use Rattle.edits.specs.OnePass.{apart}
 use Rattle.labelled.specs.Table.{Blank, placeFrom, placeIn, isLow, Indexed, Passed, cleared}

@@ -10,7 +10,7 @@ use Rattle.iso8211.specs.Directory.{tagAt, rowAt, rows}
 use Rattle.iso8211.specs.Field.{countAt, directoryAt, fieldAt}
 use Rattle.entries.specs.Entries.{textFrom, textLen, entryLen, entriesFrom, entriesOf, wholeGood}
 use Rattle.table.specs.Text.{bytes}
-use Rattle.table.specs.Table.{table, rowOf, kindOf, among, asNumber, SG2D}
+use Rattle.table.specs.Table.{table, rowOf, kindOf, among, asNumber, SG2D, kindCount}
 use Rattle.layout.specs.Layout.{opens, follows, placed, mayEnd, filled, fieldLaid, laidFrom, layoutFault}
 
 -- a record of 0001 and a field of 8 bytes behind it
@@ -25,7 +25,7 @@ node a b =
 
 -- every field is declared
 unfoldable all : List ℕ
-all = replicate 20 1
+all = replicate kindCount 1
 
 unfoldable faults : List ℕ
 faults =

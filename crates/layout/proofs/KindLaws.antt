@@ -8,11 +8,11 @@ use native.Mathlib.Omega.{arith}
 use lib.ListN.{length, getD}
 use lib.Dec.{eqb, leb, ltb}
 use borrow.Author.Tests.{leb-true, ltb-true, eqb-true, eq-eqb, not-true}
-use Rattle.octets.proofs.Cases.{eq-or-ne}
-use Rattle.octets.proofs.Tests.{both, all4}
+use Rattle.octets.proofs.ListLaws.{allBelow, all-below}
+use Rattle.octets.proofs.Tests.{both, all4, implied, or-cases}
 use Rattle.entries.specs.Premises.{Sound}
 use Rattle.entries.specs.Rules.{allOf}
-use Rattle.table.specs.Table.{Row, table, rowOf, kindOf, among, asNumber, first, DSID, DSSI, DSPM, VRID, FRID, FOID}
+use Rattle.table.specs.Table.{Row, table, rowOf, kindOf, among, asNumber, first, DSID, DSSI, DSPM, VRID, FRID, FOID, unknown, kindCount}
 use Rattle.table.specs.Text.{bytes}
 use Rattle.layout.specs.Layout.{opens, follows, shapeOf}
 
@@ -44,68 +44,49 @@ shape-sound k =
     record { some = leb-true _ _ (p .0); slim = leb-true _ _ (p .1); narrow = unit-narrow (rowOf k .text) }
 
 -- ---- which kinds there are
-either-few : (b : Bool) (x y : ℕ) → x ≤ 19 → y ≤ 19 → cond b x y ≤ 19
+either-few : (b : Bool) (x y : ℕ) → x < kindCount → y < kindCount → cond b x y < kindCount
 either-few true x y h k = h
 either-few false x y h k = k
 
-among-few : (rows : List Row) (k t : ℕ) → k + length rows ≤ 19 → among rows k t ≤ 19
+among-few : (rows : List Row) (k t : ℕ) → k + length rows < kindCount → among rows k t < kindCount
 unfolding among
-among-few [] k t h = either-few (eqb t 808464433) 18 19 (omega arith) (omega arith)
+among-few [] k t h = either-few (eqb t 808464433) first unknown (omega arith) (omega arith)
 among-few (r ∷ rows) k t h = either-few (eqb t (asNumber (bytes (r .tag)) 0)) k (among rows (suc k) t) (omega arith) (among-few rows (suc k) t (omega arith))
 
-pub kind-few : (t : ℕ) → kindOf t ≤ 19
+pub kind-few : (t : ℕ) → kindOf t < kindCount
 unfolding kindOf table
 kind-few t = among-few table 0 t (omega arith)
 
 -- ---- a rule of every kind
-unfoldable allBelow : ℕ → (ℕ → Bool) → Bool
-allBelow zero rule = true
-allBelow (suc n) rule = rule n && allBelow n rule
-
-kinds-keep : (rule : ℕ → Bool) (n k : ℕ) → allBelow n rule ≡ true → k < n → rule k ≡ true
-unfolding allBelow
-kinds-keep rule zero k all h = absurd (omega arith)
-kinds-keep rule (suc n) k all h =
-    let p = both (rule n) (allBelow n rule) all in
-    ⊎-elim (λ (same : k ≡ n). rw same (p .0)) (λ (other : k ≡ n → ⊥). kinds-keep rule n k (p .1) (omega arith)) (eq-or-ne k n)
-
-implied : (a b : Bool) → (not a || b) ≡ true → a ≡ true → b ≡ true
-implied true b h e = h
-implied false b h e = absurd (let z : _≡_ {A = ℕ} 0 1 = cc in omega arith)
-
 -- a test of kinds that only kind n passes
-only : (test : ℕ → Bool) (n k : ℕ) → allBelow 20 (λ j. not (test j) || eqb j n) ≡ true → k ≤ 19 → test k ≡ true → k ≡ n
-only test n k all few h = eqb-true k n (implied (test k) (eqb k n) (kinds-keep (λ j. not (test j) || eqb j n) 20 k all (omega arith)) h)
+only : (test : ℕ → Bool) (n k : ℕ) → allBelow kindCount (λ j. not (test j) || eqb j n) ≡ true → k < kindCount → test k ≡ true → k ≡ n
+only test n k all few h = eqb-true k n (implied (test k) (eqb k n) (all-below (λ j. not (test j) || eqb j n) kindCount k all few) h)
 
 -- a test of kinds that none passes
-never : (test : ℕ → Bool) (k : ℕ) → allBelow 20 (λ j. not (test j)) ≡ true → k ≤ 19 → test k ≡ true → ⊥
+never : (test : ℕ → Bool) (k : ℕ) → allBelow kindCount (λ j. not (test j)) ≡ true → k < kindCount → test k ≡ true → ⊥
 never test k all few h =
-    let n = kinds-keep (λ j. not (test j)) 20 k all (omega arith) in
+    let n = all-below (λ j. not (test j)) kindCount k all few in
     let f : not true ≡ true = rw h at n in
     let z : _≡_ {A = ℕ} 0 1 = cc in
     omega arith
 
 -- ---- which kind opens a record
-pub opens-dsid : (k : ℕ) → k ≤ 19 → opens 0 k ≡ true → k ≡ DSID
+pub opens-dsid : (k : ℕ) → k < kindCount → opens 0 k ≡ true → k ≡ DSID
 unfolding opens rowOf table allBelow
 opens-dsid k few h = only (opens 0) DSID k refl few h
 
-pub opens-dspm : (k : ℕ) → k ≤ 19 → opens 1 k ≡ true → k ≡ DSPM
+pub opens-dspm : (k : ℕ) → k < kindCount → opens 1 k ≡ true → k ≡ DSPM
 unfolding opens rowOf table allBelow
 opens-dspm k few h = only (opens 1) DSPM k refl few h
 
-pub opens-feature : (k : ℕ) → k ≤ 19 → opens 3 k ≡ true → k ≡ FRID
+pub opens-feature : (k : ℕ) → k < kindCount → opens 3 k ≡ true → k ≡ FRID
 unfolding opens rowOf table allBelow
 opens-feature k few h = only (opens 3) FRID k refl few h
 
-or-cases : (a b : Bool) → (a || b) ≡ true → (a ≡ true) ⊎ (b ≡ true)
-or-cases true b h = inl refl
-or-cases false b h = inr h
-
-pub opens-item : (k : ℕ) → k ≤ 19 → opens 2 k ≡ true → (k ≡ VRID) ⊎ (k ≡ FRID)
+pub opens-item : (k : ℕ) → k < kindCount → opens 2 k ≡ true → (k ≡ VRID) ⊎ (k ≡ FRID)
 unfolding opens rowOf table allBelow
 opens-item k few h =
-    let t = implied (opens 2 k) (eqb k VRID || eqb k FRID) (kinds-keep (λ j. not (opens 2 j) || (eqb j VRID || eqb j FRID)) 20 k refl (omega arith)) h in
+    let t = implied (opens 2 k) (eqb k VRID || eqb k FRID) (all-below (λ j. not (opens 2 j) || (eqb j VRID || eqb j FRID)) kindCount k refl few) h in
     ⊎-elim (λ (v : eqb k VRID ≡ true). inl (eqb-true _ _ v)) (λ (f : eqb k FRID ≡ true). inr (eqb-true _ _ f)) (or-cases (eqb k VRID) (eqb k FRID) t)
 
 -- it is of one of the four groups, and no control
@@ -128,17 +109,17 @@ unfolding rowOf table
 first-apart = refl
 
 -- ---- which kind follows which
-pub follows-dsid : (update : Bool) (k : ℕ) → k ≤ 19 → follows update DSID k ≡ true → k ≡ DSSI
+pub follows-dsid : (update : Bool) (k : ℕ) → k < kindCount → follows update DSID k ≡ true → k ≡ DSSI
 unfolding follows rowOf table allBelow
 follows-dsid true k few h = only (follows true DSID) DSSI k refl few h
 follows-dsid false k few h = only (follows false DSID) DSSI k refl few h
 
-pub follows-dssi : (update : Bool) (k : ℕ) → k ≤ 19 → follows update DSSI k ≡ true → ⊥
+pub follows-dssi : (update : Bool) (k : ℕ) → k < kindCount → follows update DSSI k ≡ true → ⊥
 unfolding follows rowOf table allBelow
 follows-dssi true k few h = never (follows true DSSI) k refl few h
 follows-dssi false k few h = never (follows false DSSI) k refl few h
 
-pub follows-dspm : (update : Bool) (k : ℕ) → k ≤ 19 → follows update DSPM k ≡ true → ⊥
+pub follows-dspm : (update : Bool) (k : ℕ) → k < kindCount → follows update DSPM k ≡ true → ⊥
 unfolding follows rowOf table allBelow
 follows-dspm true k few h = never (follows true DSPM) k refl few h
 follows-dspm false k few h = never (follows false DSPM) k refl few h

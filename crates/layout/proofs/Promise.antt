@@ -25,7 +25,7 @@ use Rattle.dataset.specs.Premises.{DsidLaid}
 use Rattle.headvalues.specs.Premises.{DspmLaid}
 use Rattle.dataset.proofs.DsidLaws.{dsid-laid}
 use Rattle.headvalues.proofs.DspmLaws.{dspm-laid}
-use Rattle.table.specs.Table.{table, rowOf, first, DSID, DSSI, DSPM, VRID, FRID, FOID}
+use Rattle.table.specs.Table.{table, rowOf, first, DSID, DSSI, DSPM, VRID, FRID, FOID, kindCount}
 use Rattle.layout.specs.Layout.{opens, follows, placed, mayEnd, filled, shapeOf, fieldLaid, laidFrom, layoutFault, start}
 use Rattle.layout.specs.Record.{kindAt, contentAt}
 use Rattle.layout.specs.Premises.{Laid}
@@ -221,7 +221,7 @@ module _ {update : Bool} {stage : ℕ} {marks s : List ℕ} {at : ℕ} (good : L
       (λ (other : j ≡ 0 → ⊥). next j (omega arith) h .uncontrolled cell)
       (eq-or-ne j 0)
 
-  opener-few : kindAt s at 1 ≤ 19
+  opener-few : kindAt s at 1 < kindCount
   opener-few = kind-few (fieldAt s at 1 .tag)
 
   -- field 1 isn't the last if a record can't end with it

@@ -11,11 +11,11 @@ use Rattle.entries.specs.Entries.{wholeGood}
 use Rattle.entries.specs.declared.Shape.{Shape}
 use Rattle.dataset.specs.Dsid.{dsidLaid}
 use Rattle.headvalues.specs.Dspm.{dspmLaid}
-use Rattle.table.specs.Table.{rowOf, kindOf, first, DSID, DSPM, FRID, FOID}
+use Rattle.table.specs.Table.{rowOf, kindOf, first, DSID, DSPM, FRID, FOID, kindCount}
 
 -- no field yet: where a record begins
 abbrev pub start : ℕ
-start = 20
+start = kindCount
 
 -- "Cell: 0; then 0001 DSID DSSI; then 0001 DSPM; then vectors; then features": which kind of record is due, 0 that of DSID, 1 that of
 -- DSPM, 2 a vector or a feature, 3 a feature; and whether a field of kind k opens such a record behind its 0001

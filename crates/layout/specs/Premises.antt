@@ -4,7 +4,7 @@ use mathlib.Core.List.{List}
 use lib.ListN.{length, getD}
 use Rattle.headvalues.specs.Dspm.{mostComf}
 use Rattle.iso8211.specs.Field.{countAt, fieldAt}
-use Rattle.iso8211.specs.Premises.{FramedAt}
+use Rattle.iso8211.specs.Premises.{FramedAt, RecordIn}
 use Rattle.iso8211.specs.File.{recordAt}
 use Rattle.layout.specs.General.{comfAt}
 use mathlib.Core.Bool.{Bool, true}
@@ -18,6 +18,12 @@ pub record DssiThere (s : List ℕ) : Type 0 where
   pub framed : FramedAt s (recordAt s 1)
   pub third : 3 ≤ countAt s (recordAt s 1)
   pub whole : fieldAt s (recordAt s 1) 2 .start + 35 ≤ length s
+
+-- the record at `at` has a third field, whose AALL and NALL are there
+pub record LevelsIn (s : List ℕ) (at : ℕ) : Type 0 where
+  pub inside : RecordIn s at
+  pub third : 3 ≤ countAt s at
+  pub room : fieldAt s at 2 .start + 3 ≤ length s
 
 -- "then 0001 DSPM", "COMF 1 to 10,000,000": record 2 has a second field, whose COMF is there and not above that
 pub record DspmThere (s : List ℕ) : Type 0 where

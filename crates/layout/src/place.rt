@@ -5,7 +5,7 @@ use table::kind_row;
 use table::kinds;
 
 // In place of a kind where no field stands before.
-pub const START: usize = 20;
+pub const START: usize = kinds::COUNT;
 
 // Whether a field of kind k opens a record of this stage, behind its 0001.
 pub fn opens(stage: usize, k: usize) -> bool

@@ -32,7 +32,9 @@ use Rattle.answers.specs.declared.refusal.Refusal.{Refusal}
 use Rattle.answers.specs.Answer.{answer, filed}
 use Rattle.reader.specs.Lent.{FileOpened}
 use Rattle.answers.specs.declared.answer.Answer.{Answer}
-use Rattle.readboth.proofs.CallLaws.{front-refused, opening-on, opened-refused, worked-short, worked-on}
+use Rattle.readonce.specs.Once.{CellRead}
+use Rattle.loader.specs.Settling.{Settling}
+use Rattle.readboth.proofs.CallLaws.{front-opened, front-refused, opening-on, opened-refused, worked-short, worked-on}
 use Rattle.answers.specs.First.{firstAnswer}
 use Rattle.answers.proofs.FirstLaws.{first-told}
 use Rattle.answers.proofs.AnswerLaws.{code-kept, filed-kept, filed-first, filed-on}
@@ -147,12 +149,49 @@ module _ (cell : List ℕ) (n : ℕ) (front : frontOf 1 cell ≡ Count n) (w : �
     pub admitted-held : r .code ≡ 0 → a ≡ heldAnswer o (chartOf cell n) → a ≡ admitOf cell w o
     admitted-held none e = rw (admit-opened o, ← is) (worked-on w n _ a room (filed-on 1 r _ a none e))
 
--- ---- admit
+-- ---- the output
 pub area-opened : (cell : List ℕ) (n : ℕ) → frontOf 1 cell ≡ Count n → (w : ℕ) (out next : List ℕ) (a : Answer) → a ≡ admitOf cell w (length out)
     → next ≡ areaBy a (chartOf cell n) out → next ≡ admitArea cell w out
 unfolding admitArea recordsIn
 area-opened cell n front w out next a is e = e ∙ rw (front, is)
 
+pub area-short : (cell : List ℕ) (n : ℕ) → frontOf 1 cell ≡ Count n → (w : ℕ) (out : List ℕ) (a : Answer) → w < 16 * n → a ≡ answer 3 0 0 (16 * n) 0 → out ≡ admitArea cell w out
+area-short cell n front w out a h e = area-opened cell n front w out out a (admitted-work cell n front w (length out) a h e) (work-area (chartOf cell n) out a (16 * n) e)
+
+-- ---- settled
+module _ {s work : List ℕ} {n : ℕ} {r : Refusal} (so : Settling s n r work) where
+  pub settled-ready : r .code ≡ 0 → ((i : ℕ) → byteAt s i < 256) → Ready s n work
+  settled-ready none small = admitted-ready s work n r (so .is) none small (front-opened 1 s n (so .front)) (so .room) (so .words none)
+
+  module _ (o : ℕ) (a : Answer) where
+    pub settled-filed : (r .code ≡ 0 → ⊥) → a ≡ filed 1 r → a ≡ admitOf s (length work) o
+    settled-filed ne e = admitted-filed s n (so .front) (length work) (so .room) r (so .is) o a ne e
+
+    pub settled-held : r .code ≡ 0 → a ≡ heldAnswer o (chartOf s n) → a ≡ admitOf s (length work) o
+    settled-held none e = admitted-held s n (so .front) (length work) (so .room) r (so .is) o a none e
+
+  module _ (out : List ℕ) (a : Answer) where
+    pub settled-kept : (r .code ≡ 0 → ⊥) → a ≡ filed 1 r → out ≡ admitArea s (length work) out
+    settled-kept ne e = area-opened s n (so .front) (length work) out out a (settled-filed (length out) a ne e) (filed-area (chartOf s n) out a 1 r ne e)
+
+    pub settled-put : (next : List ℕ) → r .code ≡ 0 → a ≡ heldAnswer (length out) (chartOf s n) → next ≡ areaBy a (chartOf s n) out → next ≡ admitArea s (length work) out
+    settled-put next none e by = area-opened s n (so .front) (length work) out next a (settled-held (length out) a none e) by
+
+-- of an opened cell, and of one that one pass read
+pub settling-opened : {s work : List ℕ} {n : ℕ} (r : Refusal) → frontOf 1 s ≡ Count n → 16 * n ≤ length work → r ≡ cellVerdict s n → (r .code ≡ 0 → HeldIn s n work)
+    → Settling s n r work
+settling-opened r front room is words = record { front = front; room = room; is = is; words = words }
+
+pub settling-once : {s before work : List ℕ} {n : ℕ} (r : Refusal) → CellRead s n before → length work ≡ length before → r ≡ cellVerdict s n → (r .code ≡ 0 → HeldIn s n work)
+    → Settling s n r work
+settling-once r so size is words = record { front = so .front; room = (let room = so .room in omega arith); is = is; words = words }
+
+-- the work area keeps its length while the cell is read
+pub admit-along : (s out : List ℕ) {next : List ℕ} {v w : ℕ} {a : Answer} → v ≡ w → (a ≡ admitOf s v (length out)) × (next ≡ admitArea s v out)
+    → (a ≡ admitOf s w (length out)) × (next ≡ admitArea s w out)
+admit-along s out e so = rw e at so
+
+-- ---- admitted_again
 module _ (cell : List ℕ) (f : Front) (is : f ≡ frontOf 1 cell) (a : Answer) (told : f ≡ Refused a) where
   pub admit-refused : (w o : ℕ) → a ≡ admitOf cell w o
   unfolding admitOf

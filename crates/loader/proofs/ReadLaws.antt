@@ -8,6 +8,7 @@ use native.Mathlib.Omega.{arith}
 use lib.ListN.{length}
 use lib.Dec.{eqb, leb, ltb}
 use borrow.Author.Tests.{ltb-false}
+use Rattle.octets.specs.Lists.{isIn}
 use Rattle.octets.specs.Number.{numAt}
 use Rattle.octets.proofs.Cases.{true-or-false}
 use Rattle.iso8211.specs.Record.{endOf}
@@ -15,7 +16,6 @@ use Rattle.iso8211.specs.File.{frameOf, recordAt}
 use Rattle.iso8211.specs.declared.file.Framed.{Framed}
 use Rattle.iso8211.specs.declared.file.Framed.the-variants.{Records, Broken}
 use Rattle.iso8211.proofs.Promise.{records-few, broken-few}
-use Rattle.words.specs.Order.{isIn}
 use Rattle.declarations.specs.Described.{describedOf}
 use Rattle.layout.specs.Layout.{layoutFault}
 use Rattle.fieldvalue.specs.Value.{valueFault}

@@ -2,3 +2,4 @@
 pub mod Admit
 pub mod Apply
 pub mod BenchSheet
+pub mod Settling

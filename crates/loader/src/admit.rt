@@ -5,7 +5,9 @@ ghost use Rattle.held.specs.Chart.{chartOf};
 ghost use Rattle.reader.specs.Reader.{frontOf};
 ghost use Rattle.reissue.specs.Plan.{Ready};
 ghost use Rattle.loader.specs.Admit.{heldAnswer, areaBy, admitOf, admitArea};
+ghost use Rattle.loader.specs.Settling.{Settling};
 use answers::Answer;
+use answers::Refusal;
 use answers::answer::answered;
 use answers::answer::filed;
 use answers::codes::MOST_RECORDS;
@@ -14,9 +16,12 @@ use answers::codes::SIZE;
 use answers::codes::WORK;
 use answers::codes::WORK_EACH;
 use judging::judge::cell_verdict;
+use judging::judge::verdict_once;
 use octets::area::clear;
 use reader::front::Front;
 use reader::front::opened;
+use readonce::cell::Read;
+use readonce::cell::cell_once;
 use reissue::plan::planned;
 use reissue::write::put_chart;
 
@@ -31,7 +36,8 @@ fn held_into(cell: &[u8], n: usize, out: &mut [u8], work: &[u8]) -> Answer
         return answered(SIZE, 3, 0, 0, 0);
     }
     let m = n - 3;
-    let plan = planned(cell, m, work);
+    let scheme = planned(cell, m, work);
+    let plan = scheme.plan;
     if !plan.fits {
         return answered(SIZE, 3, 0, 0, 0);
     }
@@ -39,25 +45,61 @@ fn held_into(cell: &[u8], n: usize, out: &mut [u8], work: &[u8]) -> Answer
     if out.len() < total {
         return answered(ROOM, 0, 0, total, 0);
     }
-    put_chart(cell, m, work, out);
+    put_chart(cell, m, work, scheme.same, out);
     answered(0, 0, 0, total, 0)
+}
+
+// A cell of n records whose verdict is r: that refusal, or these codes and the held form.
+fn settled(cell: &[u8], n: usize, r: Refusal, out: &mut [u8], work: &[u8]) -> Answer
+    requires { ⌜ Settling (now cell) n r (now work) ⌝ }
+    ensures { λ a. ⌜ a ≡ admitOf (now (cell .entry)) (length (now (work .entry))) (length (now (out .entry))) ⌝ }
+    ensures { λ _. ⌜ now (out .exit) ≡ admitArea (now (cell .entry)) (length (now (work .entry))) (now (out .entry)) ⌝ }
+{
+    let code = r.code;
+    if code != 0 {
+        return filed(1, r);
+    }
+    held_into(cell, n, out, work)
 }
 
 // An opened cell of n records: code 3, then 4 to 8, 17 to 19, then these.
 fn admitted(cell: &[u8], n: usize, out: &mut [u8], work: &mut [u8]) -> Answer
     requires { ⌜ frontOf 1 (now cell) ≡ Front.Count n ⌝ }
     ensures { λ r. ⌜ r ≡ admitOf (now (cell .entry)) (length (now (work .entry))) (length (now (out .entry))) ⌝ }
-    ensures { λ r. ⌜ now (out .exit) ≡ areaBy r (chartOf (now (cell .entry)) n) (now (out .entry)) ⌝ }
+    ensures { λ _. ⌜ now (out .exit) ≡ admitArea (now (cell .entry)) (length (now (work .entry))) (now (out .entry)) ⌝ }
 {
     if work.len() < WORK_EACH * n {
         return answered(WORK, 0, 0, WORK_EACH * n, 0);
     }
     let r = cell_verdict(cell, n, work);
-    let code = r.code;
-    if code != 0 {
-        return filed(1, r);
+    settled(cell, n, r, out, work)
+}
+
+// The same, of a cell that is read again, stage by stage, for the one refusal.
+fn admitted_again(cell: &[u8], out: &mut [u8], work: &mut [u8]) -> Answer
+    ensures { λ r. ⌜ r ≡ admitOf (now (cell .entry)) (length (now (work .entry))) (length (now (out .entry))) ⌝ }
+    ensures { λ _. ⌜ now (out .exit) ≡ admitArea (now (cell .entry)) (length (now (work .entry))) (now (out .entry)) ⌝ }
+{
+    let front = opened(cell, 1);
+    match front {
+        Front::Refused(a) => a,
+        Front::Count(n) => admitted(cell, n, out, work),
     }
-    held_into(cell, n, out, work)
+}
+
+// The held form: in one pass over the cell where that suffices.
+fn admitted_once(cell: &[u8], out: &mut [u8], work: &mut [u8]) -> Answer
+    ensures { λ r. ⌜ r ≡ admitOf (now (cell .entry)) (length (now (work .entry))) (length (now (out .entry))) ⌝ }
+    ensures { λ _. ⌜ now (out .exit) ≡ admitArea (now (cell .entry)) (length (now (work .entry))) (now (out .entry)) ⌝ }
+{
+    let read = cell_once(cell, work);
+    match read {
+        Read::All(n) => {
+            let r = verdict_once(cell, n, work);
+            settled(cell, n, r, out, work)
+        }
+        Read::Not => admitted_again(cell, out, work),
+    }
 }
 
 // The held form of a cell into the front of the output. The work area is zero afterwards.
@@ -66,16 +108,7 @@ pub fn admit(cell: &[u8], out: &mut [u8], work: &mut [u8]) -> Answer
     ensures { λ _. ⌜ now (out .exit) ≡ admitArea (now (cell .entry)) (length (now (work .entry))) (now (out .entry)) ⌝ }
     ensures { λ _. ⌜ now (work .exit) ≡ replicate (length (now (work .entry))) 0 ⌝ }
 {
-    let front = opened(cell, 1);
-    match front {
-        Front::Refused(a) => {
-            clear(work);
-            a
-        }
-        Front::Count(n) => {
-            let a = admitted(cell, n, out, work);
-            clear(work);
-            a
-        }
-    }
+    let a = admitted_once(cell, out, work);
+    clear(work);
+    a
 }

@@ -1,7 +1,7 @@
 -- Laws of the look-up: where the words before a place have smaller names, the first word of a name is told by the place; and what the
 -- search by halving answers. Assumes nothing.
 use Prim.Native.Nat.{ℕ, zero, suc, _+_, _-_, _*_, _/_, _%_, _≤_, _<_}
-use mathlib.Core.Bool.{true, false, cond}
+use mathlib.Core.Bool.{Bool, true, false, cond, _||_}
 use mathlib.Core.List.{List, [], _∷_}
 use mathlib.Core.Logic.{_⊎_, inl, inr, ⊎-elim}
 use mathlib.Core.Path.{_≡_, refl, sym, ap, _∙_}
@@ -10,9 +10,10 @@ use native.Mathlib.Omega.{arith}
 use lib.Dec.{eqb}
 use lib.ListN.{length, getD}
 use borrow.Author.Tests.{eq-eqb, ne-eqb, eqb-true}
+use Rattle.octets.specs.Lists.{isIn}
 use Rattle.octets.proofs.Cases.{true-or-false, le-or-lt, eq-or-ne}
 use Rattle.words.specs.Words.{wordAt, wordsIn}
-use Rattle.words.specs.Order.{Sorted, isIn}
+use Rattle.words.specs.Order.{Sorted}
 use Rattle.words.specs.Find.{firstFrom}
 use Rattle.words.proofs.WordsLaws.{words-length, words-at}
 use Rattle.words.proofs.FindLaws.{first-before, first-there, found-end, found-here, found-not}
@@ -21,7 +22,7 @@ use Rattle.items.specs.Identity.{rankOf, nameFrom}
 use Rattle.items.specs.Word.{nameOf, wordOffset}
 use Rattle.items.proofs.IdentityLaws.{num-one, name-small}
 use Rattle.lookups.specs.Lookup.{nameIn, foundCode}
-use Rattle.lookups.specs.LookupWords.{lookup, indexFrom, indexOf}
+use Rattle.lookups.specs.LookupWords.{lookup, indexFrom, indexOf, FirstTold, WordTold}
 use Rattle.lookups.specs.declared.lookup.Found.{Found}
 use Rattle.lookups.specs.declared.lookup.Found.the-variants.{At, Nothing}
 
@@ -210,3 +211,59 @@ has-here s start m w r x is there less so =
     ⊎-elim (λ (h : x ≡ w). eq-eqb x w h ∙ sym (found-here s start m w r is x there less h))
     (λ (h : x ≡ w → ⊥). ne-eqb x w h ∙ sym (found-not s start m w r is x there less so h))
     (eq-or-ne x w)
+
+-- ---- is_first: a guess that fails tells nothing
+never : {A : Type 0} → false ≡ true → A
+never e = absurd (let z : _≡_ {A = ℕ} 0 1 = cc in omega arith)
+
+pub first-no : (ws : List ℕ) (name near : ℕ) → FirstTold ws name near false
+first-no ws name near = record { is = λ (e : false ≡ true). never e }
+
+-- x is the word read at index `near`, y the one before
+module _ (s : List ℕ) (start m name near x : ℕ) (there : x ≡ wordAt s (start + near)) (inside : near < m) (named : x / 16777216 ≡ name) where
+  word-near : getD (wordsIn s start m) near 0 ≡ x
+  word-near = words-at s start m near inside ∙ sym there
+
+  guessed : ((p : ℕ) → p < near → nameOf (getD (wordsIn s start m) p 0) ≡ name → ⊥) → FirstTold (wordsIn s start m) name near true
+  unfolding indexOf
+  guessed low = record {
+    is = λ (e : true ≡ true).
+        sym (rw zero-add at (index-here 0 (wordsIn s start m) name near (omega (arith, words-length s start m)) low (ap (λ (w : ℕ). w / 16777216) word-near ∙ named)));
+  }
+
+  pub first-at-front : near ≡ 0 → FirstTold (wordsIn s start m) name near true
+  first-at-front front = guessed (λ p b e. omega arith)
+
+  pub first-behind : (y : ℕ) → (near ≡ 0 → ⊥) → y ≡ wordAt s (start + near - 1) → y / 16777216 < name → Sorted (wordsIn s start m)
+      → FirstTold (wordsIn s start m) name near true
+  first-behind y some before low so =
+      let same : start + near - 1 ≡ start + (near - 1) = omega arith in
+      let word-before : getD (wordsIn s start m) (near - 1) 0 ≡ y = words-at s start m (near - 1) (omega arith) ∙ sym (before ∙ ap (λ (i : ℕ). wordAt s i) same) in
+      guessed (λ p b e. let z = so .order p (near - 1) (omega arith) (omega (arith, words-length s start m)) in omega arith)
+
+-- a guess that holds
+pub first-told : (s : List ℕ) (start m name near : ℕ) (r : Bool) → FirstTold (wordsIn s start m) name near r → r ≡ true
+    → At near ≡ indexOf (wordsIn s start m) name
+first-told s start m name near r told e = told .is e
+
+-- ---- is_there
+pub word-no : (ws : List ℕ) (w : ℕ) → WordTold ws w false
+word-no ws w = record { is = λ (e : false ≡ true). never e }
+
+in-at : (l : List ℕ) (w i : ℕ) → i < length l → getD l i 0 ≡ w → true ≡ isIn w l
+unfolding isIn
+in-at [] w i h e = absurd (omega arith)
+in-at (x ∷ l) w zero h e = rw (eq-eqb x w e)
+in-at (x ∷ l) w (suc i) h e = by (eqb x w) (in-at l w i (omega arith) e)
+  where
+    by : (b : Bool) → true ≡ isIn w l → true ≡ (b || isIn w l)
+    by true h = refl
+    by false h = h
+
+pub word-here : (s : List ℕ) (start m w near x : ℕ) → x ≡ wordAt s (start + near) → near < m → x ≡ w → WordTold (wordsIn s start m) w true
+word-here s start m w near x there inside same = record {
+  is = λ (e : true ≡ true). in-at (wordsIn s start m) w near (omega (arith, words-length s start m)) (words-at s start m near inside ∙ sym there ∙ same);
+}
+
+pub word-told : (s : List ℕ) (start m w : ℕ) (r : Bool) → WordTold (wordsIn s start m) w r → r ≡ true → true ≡ isIn w (wordsIn s start m)
+word-told s start m w r told e = told .is e

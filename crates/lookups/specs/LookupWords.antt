@@ -1,9 +1,11 @@
 -- -- The look-up by words, as the code does it; nothing here need be believed. Assumes nothing.
 use Prim.Native.Nat.{ℕ, _+_}
-use mathlib.Core.Bool.{cond}
+use mathlib.Core.Bool.{Bool, true, cond}
 use mathlib.Core.List.{List, [], _∷_}
+use mathlib.Core.Path.{_≡_}
 use Rattle.items.specs.Word.{nameOf, wordOffset}
 use lib.Dec.{eqb}
+use Rattle.octets.specs.Lists.{isIn}
 use Rattle.lookups.specs.declared.lookup.Found.{Found}
 use Rattle.lookups.specs.declared.lookup.Found.the-variants.{At, Nothing}
 
@@ -20,3 +22,12 @@ indexFrom k (w ∷ ws) name = cond (eqb (nameOf w) name) (At k) (indexFrom (k + 
 -- the index among all words
 unfoldable pub indexOf : List ℕ → ℕ → Found
 indexOf ws name = indexFrom 0 ws name
+
+-- ---- a guess that is tested
+-- where r says yes, the word at index `near` is the first that has this name
+pub record FirstTold (ws : List ℕ) (name near : ℕ) (r : Bool) : Type 0 where
+  pub is : r ≡ true → At near ≡ indexOf ws name
+
+-- where r says yes, w is one of these words
+pub record WordTold (ws : List ℕ) (w : ℕ) (r : Bool) : Type 0 where
+  pub is : r ≡ true → true ≡ isIn w ws

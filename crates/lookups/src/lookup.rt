@@ -2,10 +2,11 @@
 ghost use Prim.Native.Nat.{_+_, _*_, _≤_, _<_};
 ghost use mathlib.Core.Path.{_≡_};
 ghost use lib.ListN.{length};
+ghost use Rattle.octets.specs.Lists.{isIn};
 ghost use Rattle.words.specs.Words.{wordsIn};
-ghost use Rattle.words.specs.Order.{Sorted, isIn};
+ghost use Rattle.words.specs.Order.{Sorted};
 ghost use Rattle.lookups.specs.Lookup.{nameIn};
-ghost use Rattle.lookups.specs.LookupWords.{lookup, indexOf};
+ghost use Rattle.lookups.specs.LookupWords.{lookup, indexOf, FirstTold, WordTold};
 use items::identity::rank_of;
 use items::word;
 use octets::number::get1;
@@ -47,6 +48,58 @@ pub fn index_of(area: &[u8], from: usize, m: usize, name: u64) -> Found
     Found::Nothing
 }
 
+// Whether the word at index `near` is the first that has this name: it has it, and the word before
+// hasn't. Any number may be asked about.
+fn is_first(area: &[u8], from: usize, m: usize, name: u64, near: usize) -> bool
+    requires { ⌜ (8 * (from + m) ≤ length (now area)) × Sorted (wordsIn (now area) from m) ⌝ }
+    ensures { λ r. ⌜ FirstTold (wordsIn (now (area .entry)) from m) name near r ⌝ }
+{
+    if m <= near {
+        return false;
+    }
+    if get(area, from + near) / word::NAME_WEIGHT != name {
+        return false;
+    }
+    if near == 0 {
+        return true;
+    }
+    if name <= get(area, from + near - 1) / word::NAME_WEIGHT {
+        return false;
+    }
+    true
+}
+
+// Where the name stands if every name from that of the word at index `start` on is there: a guess,
+// which promises nothing.
+fn guess(area: &[u8], from: usize, m: usize, name: u64, start: usize) -> usize
+    requires { ⌜ (8 * (from + m) ≤ length (now area)) × (name < 17179869184) ⌝ }
+{
+    if m <= start {
+        return 0;
+    }
+    let least = get(area, from + start) / word::NAME_WEIGHT;
+    if name < least {
+        return 0;
+    }
+    start + (name - least) as usize
+}
+
+// The same as `index_of`. Before it halves it tries the index `near`, then the one that the name
+// would have among names without gaps from index `start` on; both may be any numbers.
+pub fn index_near(area: &[u8], from: usize, m: usize, name: u64, near: usize, start: usize) -> Found
+    requires { ⌜ (8 * (from + m) ≤ length (now area)) × Sorted (wordsIn (now area) from m) × (name < 17179869184) ⌝ }
+    ensures { λ r. ⌜ r ≡ indexOf (wordsIn (now (area .entry)) from m) name ⌝ }
+{
+    if is_first(area, from, m, name, near) {
+        return Found::At(near);
+    }
+    let next = guess(area, from, m, name, start);
+    if is_first(area, from, m, name, next) {
+        return Found::At(next);
+    }
+    index_of(area, from, m, name)
+}
+
 // The place of the record that has this name, by the m words from word `from` on.
 pub fn lookup(area: &[u8], from: usize, m: usize, name: u64) -> Found
     requires { ⌜ (8 * (from + m) ≤ length (now area)) × Sorted (wordsIn (now area) from m) × (name < 17179869184) ⌝ }
@@ -68,4 +121,29 @@ pub fn has_word(area: &[u8], from: usize, m: usize, w: u64) -> bool
         return false;
     }
     get(area, p) == w
+}
+
+// Whether the word at index `near` is w. Any number may be asked about.
+fn is_there(area: &[u8], from: usize, m: usize, w: u64, near: usize) -> bool
+    requires { ⌜ 8 * (from + m) ≤ length (now area) ⌝ }
+    ensures { λ r. ⌜ WordTold (wordsIn (now (area .entry)) from m) w r ⌝ }
+{
+    if m <= near {
+        return false;
+    }
+    if get(area, from + near) != w {
+        return false;
+    }
+    true
+}
+
+// The same as `has_word`. Before it halves it tries the index `near`, which may be any number.
+pub fn has_near(area: &[u8], from: usize, m: usize, w: u64, near: usize) -> bool
+    requires { ⌜ (8 * (from + m) ≤ length (now area)) × Sorted (wordsIn (now area) from m) ⌝ }
+    ensures { λ r. ⌜ r ≡ isIn w (wordsIn (now (area .entry)) from m) ⌝ }
+{
+    if is_there(area, from, m, w, near) {
+        return true;
+    }
+    has_word(area, from, m, w)
 }

@@ -8,10 +8,12 @@ use native.Mathlib.Omega.{arith}
 use lib.Dec.{eqb}
 use lib.ListN.{length, getD}
 use borrow.Author.Tests.{eq-eqb}
+use Rattle.octets.proofs.ListLaws.{member-at}
+use Rattle.octets.specs.Lists.{isIn}
 use Rattle.octets.proofs.Cases.{true-or-false}
 use Rattle.words.specs.Words.{wordsIn}
-use Rattle.words.specs.Order.{sorted, isIn}
-use Rattle.words.proofs.OrderLaws.{sorted-member, member-at}
+use Rattle.words.specs.Order.{sorted}
+use Rattle.words.proofs.OrderLaws.{sorted-member}
 use Rattle.iso8211.specs.File.{recordAt}
 use Rattle.items.specs.Word.{nameOf, wordOffset}
 use Rattle.items.proofs.IdentityLaws.{word-offset}

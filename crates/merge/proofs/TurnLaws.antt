@@ -7,7 +7,7 @@ use native.Mathlib.Omega.{arith}
 use lib.ListN.{length, getD}
 use borrow.Author.Tests.{ne-eqb, eq-eqb}
 use Rattle.words.specs.Words.{wordAt, wordsIn}
-use Rattle.items.specs.Word.{nameOf, marked}
+use Rattle.items.specs.Word.{nameOf, marked, name-weight}
 use Rattle.names.specs.Premises.{Strict}
 use Rattle.merge.specs.Updated.{Over, over-none, over-more, Named, AllMade, made-none, made-more}
 use Rattle.merge.specs.Words.{wordRules, resultWords, modifies, deletes, hasName}
@@ -136,19 +136,19 @@ module _ (s : List ℕ) (p i q j : ℕ) (t : Turn) where
   turn-kept c ne e is turn = rw (turn, words-none s q j e, words-first s p i c ne is) (list-kept c (wordsIn s (suc p) (i - 1)) [] over-none)
 
   module _ (c u : ℕ) (cell : i ≡ 0 → ⊥) (update : j ≡ 0 → ⊥) (is : c ≡ wordAt s p) (by : u ≡ wordAt s q) (cs : Strict (wordsIn s p i)) (us : Strict (wordsIn s q j)) where
-    pub turn-before : c / 16777216 < u / 16777216 → t ≡ keptTurn c → Turned (wordsIn s p i) (wordsIn s q j) t
+    pub turn-before : c / name-weight < u / name-weight → t ≡ keptTurn c → Turned (wordsIn s p i) (wordsIn s q j) t
     turn-before h turn =
         let over = over-less wordRules (nameOf c) (nameOf u) (wordsIn s (suc q) (j - 1)) h (first-over s q j u update by us) in
         rw (turn, words-first s p i c cell is, words-first s q j u update by)
         (list-kept c (wordsIn s (suc p) (i - 1)) (u ∷ wordsIn s (suc q) (j - 1)) (over-more h over))
 
-    pub turn-behind : (w : ℕ) → w ≡ marked u → u / 16777216 < c / 16777216 → t ≡ insertedTurn w → Turned (wordsIn s p i) (wordsIn s q j) t
+    pub turn-behind : (w : ℕ) → w ≡ marked u → u / name-weight < c / name-weight → t ≡ insertedTurn w → Turned (wordsIn s p i) (wordsIn s q j) t
     turn-behind w mark h turn =
         let over = over-less wordRules (nameOf u) (nameOf c) (wordsIn s (suc p) (i - 1)) h (first-over s p i c cell is cs) in
         rw (turn, words-first s p i c cell is, words-first s q j u update by, mark)
         (list-new u (c ∷ wordsIn s (suc p) (i - 1)) (wordsIn s (suc q) (j - 1)) (over-more h over) (first-over s q j u update by us))
 
-    module _ (no : u / 16777216 ≤ c / 16777216) (nor : c / 16777216 ≤ u / 16777216) (d : Bool) (told : d ≡ deletes u) where
+    module _ (no : u / name-weight ≤ c / name-weight) (nor : c / name-weight ≤ u / name-weight) (d : Bool) (told : d ≡ deletes u) where
       pub turn-gone : d ≡ true → t ≡ deletedTurn c → Turned (wordsIn s p i) (wordsIn s q j) t
       turn-gone g turn =
           rw (turn, words-first s p i c cell is, words-first s q j u update by)

@@ -7,7 +7,7 @@ use native.Mathlib.Numerals.{add-one}
 use native.Mathlib.Omega.{arith}
 use borrow.Author.Tests.{ne-eqb, eq-eqb}
 use Rattle.words.specs.Words.{wordAt, wordsIn}
-use Rattle.items.specs.Word.{nameOf}
+use Rattle.items.specs.Word.{nameOf, name-weight}
 use Rattle.merge.specs.Area.{wordsBack}
 use Rattle.merge.specs.Places.{joined, placesFrom, Headed}
 
@@ -39,7 +39,7 @@ module _ (s : List ℕ) (h count edits i j w : ℕ) (more : i < count) (is : w �
     below : j < edits
     below = omega arith
 
-    pub item-changed : w / 16777216 ≡ m / 16777216 → Headed s h count edits i j (record { word = w; change = 1; by = m })
+    pub item-changed : w / name-weight ≡ m / name-weight → Headed s h count edits i j (record { word = w; change = 1; by = m })
     unfolding placesFrom joined
     item-changed e = record {
       is = rw (front-word s i count w more is, back-word s h j edits m below there, eq-eqb (nameOf w) (nameOf m) e);
@@ -47,7 +47,7 @@ module _ (s : List ℕ) (h count edits i j w : ℕ) (more : i < count) (is : w �
       left = omega (arith, below);
     }
 
-    pub item-other : (w / 16777216 ≡ m / 16777216 → ⊥) → Headed s h count edits i j (record { word = w; change = 0; by = 0 })
+    pub item-other : (w / name-weight ≡ m / name-weight → ⊥) → Headed s h count edits i j (record { word = w; change = 0; by = 0 })
     unfolding placesFrom joined
     item-other ne = record {
       is = rw (front-word s i count w more is, add-zero j, back-word s h j edits m below there, ne-eqb (nameOf w) (nameOf m) ne);

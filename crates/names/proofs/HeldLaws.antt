@@ -9,12 +9,12 @@ use native.Mathlib.Omega.{arith}
 use lib.ListN.{length, getD, drop}
 use lib.Dec.{eqb}
 use borrow.Author.Tests.{ne-eqb}
+use Rattle.octets.proofs.ListLaws.{member-at}
 use Rattle.octets.specs.Number.{byteAt, numAt}
 use Rattle.words.specs.Order.{sorted}
-use Rattle.words.proofs.OrderLaws.{member-at}
 use Rattle.items.specs.Premises.{LaidOut, Identified}
 use Rattle.items.specs.Identity.{idAt, rcnmAt, rcidAt, rankOf, nameFrom, nameAt, wordFor}
-use Rattle.items.specs.Word.{nameOf, wordOffset}
+use Rattle.items.specs.Word.{nameOf, wordOffset, rank-weight, name-weight}
 use Rattle.items.specs.Item.{Item, itemAt, itemName}
 use Rattle.items.proofs.IdentityLaws.{word-offset, rank-few}
 use Rattle.names.specs.NameWords.{nameWords, itemsAt}
@@ -25,7 +25,7 @@ use Rattle.names.proofs.ReadableLaws.{place-small}
 use Rattle.names.proofs.NamedLaws.{word-record}
 
 -- ---- the words of a cell stand for its records
-stand-record : {s : List ℕ} {w at : ℕ} → wordFor s at ≡ w → at < 16777216 → LaidOut s at × Identified s at → Stands s w
+stand-record : {s : List ℕ} {w at : ℕ} → wordFor s at ≡ w → at < name-weight → LaidOut s at × Identified s at → Stands s w
 stand-record {s} {w} {at} e small known =
     let place : wordOffset w ≡ at = ap (λ (v : ℕ). wordOffset v) (sym e) ∙ word-offset s at small in
     record { is = rw place (sym e); laid = rw place (known .0); known = rw place (known .1) }
@@ -45,7 +45,7 @@ pub stand-rest : {s : List ℕ} {w : ℕ} {ws : List ℕ} → AllStand s (w ∷ 
 stand-rest {s} {w} {ws} all = record { each = λ p h. all .each (suc p) (omega arith) }
 
 -- ---- a word's name is its item's
-name-word : (s : List ℕ) (at : ℕ) → at < 16777216 → nameOf (wordFor s at) ≡ itemName (itemAt s at)
+name-word : (s : List ℕ) (at : ℕ) → at < name-weight → nameOf (wordFor s at) ≡ itemName (itemAt s at)
 unfolding wordFor nameAt
 name-word s at h = omega arith
 
@@ -91,26 +91,26 @@ rcid-small s at bytes =
     let d = bytes (suc (suc (suc p))) in
     omega arith
 
-word-rank : (s : List ℕ) (at : ℕ) → at < 16777216 → rcidAt s at < 4294967296 → wordFor s at / 72057594037927936 ≡ rankOf (rcnmAt s at)
+word-rank : (s : List ℕ) (at : ℕ) → at < name-weight → rcidAt s at < 4294967296 → wordFor s at / rank-weight ≡ rankOf (rcnmAt s at)
 unfolding wordFor nameAt nameFrom
 word-rank s at h small = omega arith
 
-pub stand-rank : {s : List ℕ} {w : ℕ} → Stands s w → ((i : ℕ) → byteAt s i < 256) → w / 72057594037927936 ≡ rankOf (rcnmAt s (wordOffset w))
+pub stand-rank : {s : List ℕ} {w : ℕ} → Stands s w → ((i : ℕ) → byteAt s i < 256) → w / rank-weight ≡ rankOf (rcnmAt s (wordOffset w))
 stand-rank {s} {w} stands bytes =
-    ap (λ (v : ℕ). v / 72057594037927936) (stands .is) ∙ word-rank s (wordOffset w) (omega arith) (rcid-small s (wordOffset w) bytes)
+    ap (λ (v : ℕ). v / rank-weight) (stands .is) ∙ word-rank s (wordOffset w) (omega arith) (rcid-small s (wordOffset w) bytes)
 
 rank-feature : (rcnm : ℕ) → rcnm ≡ 100 → rankOf rcnm ≡ 3
 unfolding rankOf
 rank-feature rcnm e = rw e
 
 -- the words of the vectors stand below those of the features
-pub stand-vector : {s : List ℕ} {w : ℕ} → Stands s w → ((i : ℕ) → byteAt s i < 256) → w < 3 * 72057594037927936
+pub stand-vector : {s : List ℕ} {w : ℕ} → Stands s w → ((i : ℕ) → byteAt s i < 256) → w < 3 * rank-weight
     → eqb (rcnmAt s (wordOffset w)) 100 ≡ false
 stand-vector {s} {w} stands bytes low =
     ne-eqb (rcnmAt s (wordOffset w)) 100
     (λ (e : rcnmAt s (wordOffset w) ≡ 100). let is = rank-feature (rcnmAt s (wordOffset w)) e in omega (arith, stand-rank stands bytes))
 
-pub stand-last : {s : List ℕ} {w : ℕ} → Stands s w → ((i : ℕ) → byteAt s i < 256) → 3 * 72057594037927936 ≤ w → rankOf (rcnmAt s (wordOffset w)) ≡ 3
+pub stand-last : {s : List ℕ} {w : ℕ} → Stands s w → ((i : ℕ) → byteAt s i < 256) → 3 * rank-weight ≤ w → rankOf (rcnmAt s (wordOffset w)) ≡ 3
 stand-last {s} {w} stands bytes high = omega (arith, stand-rank stands bytes, rank-few (rcnmAt s (wordOffset w)))
 
 -- of the four classes only that of features comes last
@@ -123,5 +123,5 @@ last-feature rcnm e class =
     (λ (p : (rcnm ≡ 130) ⊎ (rcnm ≡ 100)).
     ⊎-elim (λ (c : rcnm ≡ 130). let z : _≡_ {A = ℕ} 2 3 = rw c at e in absurd (omega arith)) (λ (d : rcnm ≡ 100). d) p) o) class
 
-pub stand-feature : {s : List ℕ} {w : ℕ} → Stands s w → ((i : ℕ) → byteAt s i < 256) → 3 * 72057594037927936 ≤ w → rcnmAt s (wordOffset w) ≡ 100
+pub stand-feature : {s : List ℕ} {w : ℕ} → Stands s w → ((i : ℕ) → byteAt s i < 256) → 3 * rank-weight ≤ w → rcnmAt s (wordOffset w) ≡ 100
 stand-feature {s} {w} stands bytes high = last-feature (rcnmAt s (wordOffset w)) (stand-last stands bytes high) (stands .known .class)

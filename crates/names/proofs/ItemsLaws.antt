@@ -9,14 +9,15 @@ use native.Mathlib.Omega.{arith}
 use lib.ListN.{length}
 use lib.Dec.{leb}
 use borrow.Author.Tests.{le-leb, lt-leb}
+use Rattle.octets.specs.Lists.{isIn}
 use Rattle.octets.proofs.Cases.{true-or-false, le-or-lt}
 use Rattle.iso8211.specs.Record.{endOf}
 use Rattle.iso8211.specs.File.{frameOf, recordAt}
 use Rattle.iso8211.specs.declared.file.Framed.the-variants.{Records}
 use Rattle.iso8211.proofs.Promise.{at-start, at-next}
-use Rattle.words.specs.Order.{isIn, insert, sorted}
+use Rattle.words.specs.Order.{insert, sorted}
 use Rattle.items.specs.Identity.{nameAt, wordFor}
-use Rattle.items.specs.Word.{nameOf, wordOffset}
+use Rattle.items.specs.Word.{nameOf, wordOffset, name-weight}
 use Rattle.items.specs.Item.{Item, itemAt, itemName}
 use Rattle.items.proofs.IdentityLaws.{word-name, word-offset}
 use Rattle.names.specs.NameWords.{wordsFrom, nameWords, wordTwice, itemsAt}
@@ -70,7 +71,7 @@ module _ {A : Type 0} (f : ℕ → A) (name : A → ℕ) where
 
 -- ---- the words of a file
 module _ (s : List ℕ) (n : ℕ) (framed : frameOf s ≡ Records n) (short : length s ≤ 5242880) where
-  place-low : (k : ℕ) → k < n → recordAt s k < 16777216
+  place-low : (k : ℕ) → k < n → recordAt s k < name-weight
   place-low k h = omega (arith, at-inside s n k (recordAt s k) framed h refl)
 
   place-at : (k : ℕ) → k < n → wordOffset (wordFor s (recordAt s k)) ≡ recordAt s k

@@ -7,9 +7,11 @@ use mathlib.Core.Logic.{_⊎_, ⊎-elim}
 use mathlib.Core.Path.{_≡_, refl, sym, ap, _∙_}
 use native.Mathlib.Omega.{arith}
 use lib.ListN.{getD}
+use Rattle.octets.proofs.ListLaws.{member-at, member-place}
+use Rattle.octets.specs.Lists.{isIn}
 use Rattle.iso8211.specs.File.{recordAt}
-use Rattle.words.specs.Order.{sorted, isIn}
-use Rattle.words.proofs.OrderLaws.{sorted-member, member-at, member-place}
+use Rattle.words.specs.Order.{sorted}
+use Rattle.words.proofs.OrderLaws.{sorted-member}
 use Rattle.items.specs.Identity.{nameAt, wordFor}
 use Rattle.items.specs.Word.{nameOf, wordOffset}
 use Rattle.items.proofs.IdentityLaws.{word-name, word-offset}

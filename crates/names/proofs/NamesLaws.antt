@@ -11,7 +11,7 @@ use Rattle.iso8211.specs.Record.{endOf}
 use Rattle.iso8211.specs.File.{recordAt}
 use Rattle.iso8211.proofs.Promise.{at-next}
 use Rattle.items.specs.Identity.{idAt, rcidAt, nameAt, wordFor}
-use Rattle.items.specs.Word.{nameOf, wordOffset}
+use Rattle.items.specs.Word.{nameOf, wordOffset, name-weight}
 use Rattle.items.proofs.IdentityLaws.{word-name, word-offset, word-small}
 use Rattle.names.specs.NameWords.{wordsFrom, nameWords}
 use Rattle.names.specs.Premises.{Readable, Ascending}
@@ -50,7 +50,7 @@ unfolding nameWords
 names-at update s n k h = from-at (n - firstItem update) s (firstItem update) (recordAt s (firstItem update)) k refl h
 
 module _ (update : Bool) (s : List ℕ) (n : ℕ) (known : Readable update s n) where
-  place-low : (k : ℕ) → k < n - firstItem update → recordAt s (firstItem update + k) < 16777216
+  place-low : (k : ℕ) → k < n - firstItem update → recordAt s (firstItem update + k) < name-weight
   place-low k h =
       let in-file = at-inside s n (firstItem update + k) (recordAt s (firstItem update + k)) (known .framed) (omega arith) refl in
       let short = known .short in

@@ -9,10 +9,11 @@ use native.Mathlib.Nat.{le-refl}
 use native.Mathlib.Omega.{arith}
 use lib.ListN.{length, getD}
 use borrow.Author.Tests.{le-leb, lt-leb, eq-eqb, ne-eqb}
+use Rattle.octets.proofs.ListLaws.{member-at, member-place}
 use Rattle.octets.proofs.Cases.{le-or-lt, eq-or-ne}
 use Rattle.words.specs.Order.{insert, sorted}
-use Rattle.words.proofs.OrderLaws.{insert-here, insert-later, sorted-member, sorted-in-order, member-at, member-place}
-use Rattle.items.specs.Word.{nameOf, wordOffset}
+use Rattle.words.proofs.OrderLaws.{insert-here, insert-later, sorted-member, sorted-in-order}
+use Rattle.items.specs.Word.{nameOf, wordOffset, name-weight}
 use Rattle.names.specs.NameWords.{wordTwice}
 use Rattle.names.specs.Premises.{Ascending}
 use Rattle.names.specs.Neighbours.{lower, leastFrom, leastRepeat}
@@ -86,18 +87,18 @@ pub record Neighbours (l : List ℕ) (p : ℕ) : Type 0 where
 pub least-low : (l : List ℕ) (k : ℕ) → suc k < length l → nameOf (getD l k 0) ≡ nameOf (getD l (suc k) 0) → leastRepeat l ≤ wordOffset (getD l (suc k) 0)
 unfolding leastRepeat
 least-low [] k b e = absurd (omega arith)
-least-low (w ∷ ws) k b e = least-of 16777216 w ws .low k (omega arith) e
+least-low (w ∷ ws) k b e = least-of name-weight w ws .low k (omega arith) e
 
-pub least-met : (l : List ℕ) → (leastRepeat l ≡ 16777216) ⊎ Neighbours l (leastRepeat l)
+pub least-met : (l : List ℕ) → (leastRepeat l ≡ name-weight) ⊎ Neighbours l (leastRepeat l)
 unfolding leastRepeat
 least-met [] = inl refl
 least-met (w ∷ ws) =
-    ⊎-elim (λ (e : leastFrom 16777216 w ws ≡ 16777216). inl e)
-    (λ (m : Met w ws (leastFrom 16777216 w ws)). let b = m .below in inr (record { k = m .k; below = omega arith; same = m .same; place = m .place }))
-    (least-of 16777216 w ws .met)
+    ⊎-elim (λ (e : leastFrom name-weight w ws ≡ name-weight). inl e)
+    (λ (m : Met w ws (leastFrom name-weight w ws)). let b = m .below in inr (record { k = m .k; below = omega arith; same = m .same; place = m .place }))
+    (least-of name-weight w ws .met)
 
 -- none just if no two neighbours have one name
-pub least-none : (l : List ℕ) (k : ℕ) → leastRepeat l ≡ 16777216 → suc k < length l → nameOf (getD l k 0) ≡ nameOf (getD l (suc k) 0) → ⊥
+pub least-none : (l : List ℕ) (k : ℕ) → leastRepeat l ≡ name-weight → suc k < length l → nameOf (getD l k 0) ≡ nameOf (getD l (suc k) 0) → ⊥
 least-none l k e b same = let low = least-low l k b same in omega arith
 
 -- ---- no word twice
@@ -244,10 +245,10 @@ placed : (k p q : ℕ) → p ≡ q → _≡_ {A = Repeat} (record { index = k; o
 placed k p q e = rw e
 
 pub twice-least : (start : ℕ) (ws : List ℕ) → Ascending ws
-    → ((leastRepeat (sorted ws) ≡ 16777216) × (wordTwice start [] ws ≡ record { index = 0; offset = 0 })) ⊎ First start ws (leastRepeat (sorted ws))
+    → ((leastRepeat (sorted ws) ≡ name-weight) × (wordTwice start [] ws ≡ record { index = 0; offset = 0 })) ⊎ First start ws (leastRepeat (sorted ws))
 twice-least start ws a =
     let p = leastRepeat (sorted ws) in
-    ⊎-elim (λ (e : p ≡ 16777216). inl (e, twice-no start [] ws (λ (j : ℕ) (is : repeats [] ws j ≡ true). let low = repeat-low ws a j is in omega arith)))
+    ⊎-elim (λ (e : p ≡ name-weight). inl (e, twice-no start [] ws (λ (j : ℕ) (is : repeats [] ws j ≡ true). let low = repeat-low ws a j is in omega arith)))
     (λ (m : Neighbours (sorted ws) p).
     let r = neighbour-repeat ws a p m in
     let j = r .0 in

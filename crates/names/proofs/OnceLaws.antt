@@ -7,11 +7,13 @@ use mathlib.Core.Logic.{_⊎_, ⊎-elim}
 use mathlib.Core.Path.{_≡_, refl, sym, ap, _∙_}
 use native.Mathlib.Omega.{arith}
 use lib.ListN.{length, getD}
+use Rattle.octets.proofs.ListLaws.{member-at}
+use Rattle.octets.specs.Lists.{isIn}
 use Rattle.octets.proofs.Cases.{le-or-lt}
-use Rattle.words.specs.Order.{sorted, Sorted, isIn}
-use Rattle.words.proofs.OrderLaws.{sorted-in-order, sorted-member, member-at}
+use Rattle.words.specs.Order.{sorted, Sorted}
+use Rattle.words.proofs.OrderLaws.{sorted-in-order, sorted-member}
 use Rattle.iso8211.specs.File.{recordAt}
-use Rattle.items.specs.Word.{nameOf, wordOffset}
+use Rattle.items.specs.Word.{nameOf, wordOffset, name-weight}
 use Rattle.items.proofs.IdentityLaws.{word-offset}
 use Rattle.names.specs.NameWords.{nameWords, wordTwice}
 use Rattle.names.specs.Premises.{Readable, Strict, Stands, AllStand}
@@ -25,7 +27,7 @@ use Rattle.names.proofs.NeighboursLaws.{First, least-none, twice-least}
 use Rattle.names.proofs.NamedLaws.{word-record}
 
 -- ---- no two neighbours of one name: names rise
-module _ (ws : List ℕ) (so : Sorted ws) (once : leastRepeat ws ≡ 16777216) where
+module _ (ws : List ℕ) (so : Sorted ws) (once : leastRepeat ws ≡ name-weight) where
   next-up : (k : ℕ) → suc k < length ws → nameOf (getD ws k 0) < nameOf (getD ws (suc k) 0)
   next-up k h =
       let up = so .order k (suc k) (omega arith) h in
@@ -50,10 +52,10 @@ first-some true = omega arith
 first-some false = omega arith
 
 module _ (update : Bool) {s : List ℕ} {n : ℕ} (readable : Readable update s n) where
-  once-least : twiceOf update s n ≡ record { index = 0; offset = 0 } → leastRepeat (sorted (nameWords update s n)) ≡ 16777216
+  once-least : twiceOf update s n ≡ record { index = 0; offset = 0 } → leastRepeat (sorted (nameWords update s n)) ≡ name-weight
   once-least e =
       let ws = nameWords update s n in
-      ⊎-elim (λ (alone : (leastRepeat (sorted ws) ≡ 16777216) × (wordTwice (firstItem update) [] ws ≡ record { index = 0; offset = 0 })). alone .0)
+      ⊎-elim (λ (alone : (leastRepeat (sorted ws) ≡ name-weight) × (wordTwice (firstItem update) [] ws ≡ record { index = 0; offset = 0 })). alone .0)
       (λ (f : First (firstItem update) ws (leastRepeat (sorted ws))).
       let z : firstItem update + f .j ≡ 0 = ap (λ (r : Repeat). r .index) (sym (f .is) ∙ sym (twice-words s n (readable .framed) (readable .short) update (readable .head)) ∙ e) in
       let some = first-some update in

@@ -4,6 +4,7 @@ use mathlib.Core.Bool.{Bool, true, false}
 use mathlib.Core.List.{List}
 use mathlib.Core.Path.{_≡_, refl, sym, ap, _∙_}
 use native.Mathlib.Omega.{arith}
+use Rattle.items.specs.Word.{name-weight}
 use Rattle.headvalues.specs.Dspm.{mostComf}
 use Rattle.iso8211.specs.Premises.{FramedAt}
 use Rattle.iso8211.specs.File.{frameOf, recordAt}
@@ -27,7 +28,7 @@ module _ {update : Bool} {s : List ℕ} {n : ℕ} (readable : Readable update s 
   readable-framed k at h e = framed-at s n k at (readable .framed) h e
 
   -- a record's place fits the 24 bits that a word has for it
-  pub place-small : (k : ℕ) → k < n → recordAt s k < 16777216
+  pub place-small : (k : ℕ) → k < n → recordAt s k < name-weight
   place-small k h = let there = readable-framed k (recordAt s k) h refl .headed .led .there in let short = readable .short in omega arith
 
 -- a cell has its first three records

@@ -10,8 +10,8 @@ use native.Mathlib.Omega.{arith}
 use lib.ListN.{length, getD}
 use lib.Dec.{eqb}
 use borrow.Author.Tests.{eq-eqb, eqb-true}
+use Rattle.octets.specs.Lists.{isIn}
 use Rattle.octets.proofs.Cases.{true-or-false}
-use Rattle.words.specs.Order.{isIn}
 use Rattle.items.specs.Word.{nameOf, wordOffset}
 use Rattle.names.specs.NameWords.{wordTwice}
 

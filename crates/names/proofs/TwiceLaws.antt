@@ -7,6 +7,7 @@ use mathlib.Core.Path.{_≡_, sym, ap, _∙_}
 use native.Mathlib.Numerals.{add-one}
 use native.Mathlib.Omega.{arith}
 use lib.ListN.{length}
+use Rattle.items.specs.Word.{name-weight}
 use Rattle.iso8211.specs.File.{recordAt}
 use Rattle.words.specs.Words.{wordAt, wordsIn}
 use Rattle.words.specs.Order.{sorted}
@@ -20,15 +21,15 @@ use Rattle.names.proofs.NamesLaws.{names-length, names-place, ascending
 use Rattle.names.proofs.NeighboursLaws.{First, twice-least}
 
 -- ---- the pass
-pub pass-none : (s : List ℕ) (m : ℕ) → m ≡ 0 → 16777216 ≡ leastRepeat (wordsIn s 0 m)
+pub pass-none : (s : List ℕ) (m : ℕ) → m ≡ 0 → name-weight ≡ leastRepeat (wordsIn s 0 m)
 unfolding leastRepeat wordsIn
 pass-none s m e = rw e
 
-start-at : (s : List ℕ) (m d left : ℕ) → m ≡ suc d → left ≡ wordAt s 0 → leastRepeat (wordsIn s 0 m) ≡ leastFrom 16777216 left (wordsIn s 1 d)
+start-at : (s : List ℕ) (m d left : ℕ) → m ≡ suc d → left ≡ wordAt s 0 → leastRepeat (wordsIn s 0 m) ≡ leastFrom name-weight left (wordsIn s 1 d)
 unfolding leastRepeat wordsIn
 start-at s m d left e l = rw (e, l)
 
-pub pass-start : (s : List ℕ) (m left : ℕ) → (m ≡ 0 → ⊥) → left ≡ wordAt s 0 → leastRepeat (wordsIn s 0 m) ≡ leastFrom 16777216 left (wordsIn s 1 (m - 1))
+pub pass-start : (s : List ℕ) (m left : ℕ) → (m ≡ 0 → ⊥) → left ≡ wordAt s 0 → leastRepeat (wordsIn s 0 m) ≡ leastFrom name-weight left (wordsIn s 1 (m - 1))
 pass-start s m left some l = start-at s m (m - 1) left (omega arith) l
 
 turn-at : (s : List ℕ) (i n d least left right low : ℕ) → n ≡ suc d → right ≡ wordAt s i → low ≡ lower least left right
@@ -54,21 +55,21 @@ module _ (update : Bool) (s area : List ℕ) (n first least : ℕ) (known : Read
   of-words : least ≡ leastRepeat (sorted (nameWords update s n))
   of-words = passed ∙ rw is (ap leastRepeat order)
 
-  first-of : (least ≡ 16777216 → ⊥) → First (firstItem update) (nameWords update s n) least
+  first-of : (least ≡ name-weight → ⊥) → First (firstItem update) (nameWords update s n) least
   first-of some =
       let ws = nameWords update s n in
       let p = of-words in
-      ⊎-elim (λ (alone : (leastRepeat (sorted ws) ≡ 16777216) × (wordTwice (firstItem update) [] ws ≡ record { index = 0; offset = 0 })). absurd (some (p ∙ alone .0)))
+      ⊎-elim (λ (alone : (leastRepeat (sorted ws) ≡ name-weight) × (wordTwice (firstItem update) [] ws ≡ record { index = 0; offset = 0 })). absurd (some (p ∙ alone .0)))
       (λ (f : First (firstItem update) ws (leastRepeat (sorted ws))). rw p f)
       (twice-least (firstItem update) ws (ascending update s n known))
 
   -- the record that starts there
-  place-of : (some : least ≡ 16777216 → ⊥) → least ≡ recordAt s (firstItem update + first-of some .j)
+  place-of : (some : least ≡ name-weight → ⊥) → least ≡ recordAt s (firstItem update + first-of some .j)
   place-of some =
       let f = first-of some in
       f .place ∙ names-place update s n known (f .j) (rw (names-length update s n) at (f .below))
 
-  index-low : (some : least ≡ 16777216 → ⊥) → firstItem update + first-of some .j < n
+  index-low : (some : least ≡ name-weight → ⊥) → firstItem update + first-of some .j < n
   index-low some =
       let f = first-of some in
       let low : f .j < n - firstItem update = rw (names-length update s n) at (f .below) in
@@ -77,18 +78,18 @@ module _ (update : Bool) (s area : List ℕ) (n first least : ℕ) (known : Read
   words-tell : twiceOf update s n ≡ wordTwice (firstItem update) [] (nameWords update s n)
   words-tell = twice-words s n (known .framed) (known .short) update (known .head)
 
-  pub twice-none : least ≡ 16777216 → record { index = 0; offset = 0 } ≡ twiceOf update s n
+  pub twice-none : least ≡ name-weight → record { index = 0; offset = 0 } ≡ twiceOf update s n
   twice-none none =
       let ws = nameWords update s n in
       let p = of-words in
-      ⊎-elim (λ (alone : (leastRepeat (sorted ws) ≡ 16777216) × (wordTwice (firstItem update) [] ws ≡ record { index = 0; offset = 0 })). sym (words-tell ∙ alone .1))
+      ⊎-elim (λ (alone : (leastRepeat (sorted ws) ≡ name-weight) × (wordTwice (firstItem update) [] ws ≡ record { index = 0; offset = 0 })). sym (words-tell ∙ alone .1))
       (λ (f : First (firstItem update) ws (leastRepeat (sorted ws))). let place = f .place in absurd (omega arith))
       (twice-least (firstItem update) ws (ascending update s n known))
 
-  pub twice-inside : (least ≡ 16777216 → ⊥) → least < length s
+  pub twice-inside : (least ≡ name-weight → ⊥) → least < length s
   twice-inside some = at-inside s n (firstItem update + first-of some .j) least (known .framed) (index-low some) (place-of some)
 
-  pub twice-is : (index : ℕ) → (least ≡ 16777216 → ⊥) → ((k : ℕ) → k < n → least ≡ recordAt s k → index ≡ k)
+  pub twice-is : (index : ℕ) → (least ≡ name-weight → ⊥) → ((k : ℕ) → k < n → least ≡ recordAt s k → index ≡ k)
       → record { index = index; offset = least } ≡ twiceOf update s n
   twice-is index some at =
       let f = first-of some in

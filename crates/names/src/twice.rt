@@ -7,7 +7,7 @@ ghost use Rattle.words.specs.Order.{sorted};
 ghost use Rattle.names.specs.Names.{firstItem, twiceOf};
 ghost use Rattle.names.specs.Neighbours.{lower, leastRepeat};
 use crate::walk::first_item;
-use crate::walk::index_of;
+use crate::walk::record_from;
 use items::word;
 use words::get;
 ghost use Rattle.names.specs.NameWords.{nameWords};
@@ -70,6 +70,6 @@ pub fn twice(s: &[u8], n: usize, update: bool, area: &[u8]) -> Repeat
         };
     }
     let offset = least as usize;
-    let index = index_of(s, n, offset);
+    let index = record_from(s, n, offset);
     Repeat { index, offset }
 }

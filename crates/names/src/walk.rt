@@ -32,7 +32,7 @@ pub fn start_of(s: &[u8], n: usize, k: usize) -> usize
 }
 
 // Which record starts at p.
-pub fn index_of(s: &[u8], n: usize, p: usize) -> usize
+pub fn record_from(s: &[u8], n: usize, p: usize) -> usize
     requires { ⌜ (frameOf (now s) ≡ Records n) × (p < length (now s)) ⌝ }
     ensures { λ r. ⌜ ((k : ℕ) → k < n → p ≡ recordAt (now (s .entry)) k → r ≡ k) ⌝ }
 {

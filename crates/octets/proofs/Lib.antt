@@ -4,3 +4,4 @@ pub mod Tests
 pub mod NumberLaws
 pub mod AreaLaws
 pub mod DigitsLaws
+pub mod ListLaws

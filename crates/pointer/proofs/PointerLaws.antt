@@ -6,9 +6,9 @@ use mathlib.Core.Path.{_≡_, refl, sym, ap, _∙_}
 use native.Mathlib.Omega.{arith}
 use lib.ListN.{length, take, drop}
 use borrow.Author.Tests.{ne-eqb}
+use Rattle.octets.specs.Lists.{isIn}
 use Rattle.octets.specs.Premises.{Reads}
 use Rattle.octets.proofs.Tests.{told-no, told-yes}
-use Rattle.words.specs.Order.{isIn}
 use Rattle.table.specs.Table.{rowOf, VRPT, FFPT, FSPT}
 use Rattle.items.specs.Lists.{entriesAt}
 use Rattle.items.specs.Item.{itemAt}

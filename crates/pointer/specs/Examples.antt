@@ -4,8 +4,8 @@ use mathlib.Core.Bool.{cond}
 use mathlib.Core.List.{List, [], _∷_}
 use mathlib.Core.Path.{_≡_, refl}
 use lib.Dec.{eqb}
+use Rattle.octets.specs.Lists.{isIn}
 use Rattle.octets.specs.Number.{numAt}
-use Rattle.words.specs.Order.{isIn}
 use Rattle.table.specs.Table.{VRPT, FFPT}
 use Rattle.items.specs.Item.{Item}
 use Rattle.items.specs.Identity.{rankOf, nameFrom}

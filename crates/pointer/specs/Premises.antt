@@ -2,7 +2,7 @@
 use Prim.Native.Nat.{ℕ}
 use mathlib.Core.Bool.{Bool}
 use mathlib.Core.List.{List}
-use Rattle.words.specs.Order.{isIn}
+use Rattle.octets.specs.Lists.{isIn}
 
 -- the same asked of the FOIDs of all features
 unfoldable pub heldFoid : List ℕ → ℕ → Bool

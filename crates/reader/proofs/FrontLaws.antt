@@ -1,8 +1,8 @@
 -- Laws of a file's front: the answers, and the records before a broken one. Assumes nothing.
 use Prim.Native.Nat.{ℕ, zero, suc, _+_, _-_, _≤_, _<_}
-use mathlib.Core.Bool.{Bool, true, false, cond}
+use mathlib.Core.Bool.{true}
 use mathlib.Core.List.{List}
-use mathlib.Core.Logic.{⊎-elim, _⊎_, inl, inr}
+use mathlib.Core.Logic.{⊎-elim}
 use mathlib.Core.Path.{_≡_, refl, sym, _∙_}
 use native.Mathlib.Omega.{arith}
 use lib.ListN.{length}
@@ -15,7 +15,7 @@ use Rattle.iso8211.specs.File.{framedFrom, frameOf, recordAt}
 use Rattle.iso8211.specs.declared.file.Framed.{Framed}
 use Rattle.iso8211.specs.declared.file.Framed.the-variants.{Records, Broken}
 use Rattle.iso8211.proofs.RecordLaws.{record-framed}
-use Rattle.iso8211.proofs.Promise.{at-next}
+use Rattle.iso8211.proofs.Promise.{at-next, broken-apart}
 use Rattle.answers.specs.Answer.{answer}
 use Rattle.reader.specs.Lent.{GoodBefore}
 use Rattle.reader.specs.Reader.{framedFront, frontOf}
@@ -23,11 +23,6 @@ use Rattle.answers.specs.declared.answer.Answer.{Answer}
 use Rattle.reader.specs.declared.front.Front.the-variants.{Count, Refused}
 
 -- ---- the records before a broken one are good
-broken-apart : (good last : Bool) (k j : ℕ) (on : Framed) → cond good (cond last (Records (k + 1)) on) (Broken k) ≡ Broken j → (k ≡ j) ⊎ ((good ≡ true) × (on ≡ Broken j))
-broken-apart true true k j on v = absurd (let z : _≡_ {A = ℕ} 0 1 = cc in omega arith)
-broken-apart true false k j on v = inr (refl, v)
-broken-apart false last k j on v = inl cc
-
 good-before : (f : ℕ) (s : List ℕ) (at k b j : ℕ) → framedFrom f s at k ≡ Broken b → at ≡ recordAt s k → k ≤ j → j < b → recordGood (eqb j 0) s (recordAt s j) ≡ true
 unfolding framedFrom
 good-before zero s at k b j v e low high = let z : k ≡ b = cc in absurd (omega arith)

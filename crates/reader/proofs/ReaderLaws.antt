@@ -10,6 +10,7 @@ use native.Mathlib.Omega.{arith}
 use lib.ListN.{length}
 use lib.Dec.{eqb}
 use borrow.Author.Tests.{eq-eqb, ne-eqb, eqb-true}
+use Rattle.octets.proofs.ListLaws.{part-byte, part-number}
 use Rattle.headvalues.specs.Dspm.{mostComf}
 use Rattle.octets.specs.Number.{byteAt, numAt}
 use Rattle.octets.proofs.Cases.{eq-or-ne, true-or-false}
@@ -21,7 +22,6 @@ use Rattle.iso8211.specs.File.{frameOf, recordAt}
 use Rattle.iso8211.specs.declared.file.Framed.the-variants.{Records}
 use Rattle.iso8211.proofs.Promise.{record-in, fields-in, at-next, at-first}
 use Rattle.table.specs.Table.{VRID, FRID, DSPM}
-use Rattle.attributes.proofs.PartLaws.{part-byte, part-number}
 use Rattle.values.specs.Vrid.{isVector}
 use Rattle.headvalues.proofs.Promise.{vrid-good, frid-good, dspm-good}
 use Rattle.declarations.specs.Described.{describedOf}
@@ -30,9 +30,9 @@ use Rattle.layout.specs.Premises.{Laid, DssiThere, DspmThere}
 use Rattle.layout.proofs.Promise.{laid, laid-item, laid-late, laid-dspm, full-vrid, full-frid, full-dspm, content-length}
 use Rattle.items.specs.Premises.{LaidOut, Identified}
 use Rattle.items.specs.Identity.{rcnmAt, idAt}
-use Rattle.items.proofs.Promise.{laid-record, laid-featured, vector-identified, feature-identified}
+use Rattle.items.proofs.Promise.{laid-featured, vector-identified, feature-identified}
 use Rattle.chart.specs.Read.{readFault}
-use Rattle.chart.proofs.Promise.{Here, Fair, good-records, fair, fair-vrid, fair-frid, fair-dspm}
+use Rattle.chart.proofs.Promise.{Good, Here, Fair, good-records, fair, fair-vrid, fair-frid, fair-dspm}
 use Rattle.words.specs.Words.{wordsIn}
 use Rattle.words.specs.Order.{sorted}
 use Rattle.names.specs.NameWords.{nameWords}
@@ -67,61 +67,65 @@ vector-one rcnm h =
     inr (⊎-elim (λ (b : eqb rcnm 120 ≡ true). inl (eqb-true _ _ b)) (λ (c : eqb rcnm 130 ≡ true). inr (eqb-true _ _ c)) o))
     (either (eqb rcnm 110) (eqb rcnm 120) (eqb rcnm 130) h)
 
--- ---- a vector or a feature of a file in which nothing was refused
+-- ---- a record whose framing, layout and values are good
+module _ {update : Bool} {marks s : List ℕ} {at : ℕ} (known : RecordIn s at) (fine : Good update marks s at) where
+  laid-here : Laid update (fine .state .stage) marks s at
+  laid-here = laid update (fine .state .stage) marks s at known (fine .laid)
+
+  out-here : LaidOut s at
+  out-here = record { inside = fields-in known; two = laid-here .two; fills = laid-here .full }
+
+  -- the first byte of the identifier field is the record's RCNM
+  name-here : 0 < length (contentAt s at 1) → byteAt (contentAt s at 1) 0 ≡ rcnmAt s at
+  name-here some =
+      let two = laid-here .two in
+      let size = content-length s at 1 (fields-in known) (omega arith) in
+      part-byte s (idAt s at) (fieldAt s at 1 .length - 1) 0 (omega arith) ∙ rcnm-there s at
+
+  fair-here : Fair update (fine .state .aall) (fine .state .nall) (kindAt s at 1) (contentAt s at 1)
+  fair-here =
+      let two = laid-here .two in
+      fair update (fine .state .aall) (fine .state .nall) s at (fields-in known) (fine .valued) 1 (omega arith)
+
+  vector-here : kindAt s at 1 ≡ VRID → isVector (rcnmAt s at) ≡ true
+  vector-here e =
+      let two = laid-here .two in
+      let long = full-vrid (contentAt s at 1) (rw e at (laid-here .full 1 (omega arith))) in
+      let good = vrid-good update (contentAt s at 1) (fair-vrid _ e fair-here) in
+      rw (name-here (omega arith)) at (good .rcnm)
+
+  feature-here : kindAt s at 1 ≡ FRID → rcnmAt s at ≡ 100
+  feature-here e =
+      let two = laid-here .two in
+      let long = full-frid (contentAt s at 1) (rw e at (laid-here .full 1 (omega arith))) in
+      let good = frid-good update (contentAt s at 1) (fair-frid _ e fair-here) in
+      sym (name-here (omega arith)) ∙ good .rcnm
+
+  factor-here : kindAt s at 1 ≡ DSPM → numAt s (fieldAt s at 1 .start + 16) 4 ≤ mostComf
+  factor-here e =
+      let two = laid-here .two in
+      let long = full-dspm (contentAt s at 1) (rw e at (laid-here .full 1 (omega arith))) .long in
+      let size = content-length s at 1 (fields-in known) (omega arith) in
+      let good = dspm-good (contentAt s at 1) (fair-dspm _ e fair-here) in
+      rw (part-number s (fieldAt s at 1 .start) (fieldAt s at 1 .length - 1) 16 4 (omega arith)) at (good .comf .1)
+
+  -- a vector or a feature
+  pub identified : 2 ≤ fine .state .stage → fine .state .stage ≤ 3 → Identified s at
+  identified two few =
+      let feature : kindAt s at 1 ≡ FRID → Identified s at = λ (e : kindAt s at 1 ≡ FRID). feature-identified s at out-here (laid-featured laid-here out-here e) (feature-here e) in
+      ⊎-elim (λ (e2 : fine .state .stage ≡ 2).
+      ⊎-elim (λ (v : kindAt s at 1 ≡ VRID). vector-identified s at out-here v (vector-one (rcnmAt s at) (vector-here v))) feature
+      (laid-item laid-here e2))
+      (λ (other : fine .state .stage ≡ 2 → ⊥). feature (laid-late laid-here (omega arith)))
+      (eq-or-ne (fine .state .stage) 2)
+
+-- record k of a file in which nothing was refused
 module _ (update : Bool) (s : List ℕ) (n k : ℕ) (framed : frameOf s ≡ Records n) (less : k < n) (here : Here update (describedOf s) s k) where
   at-record : RecordIn s (recordAt s k)
   at-record = record-in s n k (recordAt s k) framed less refl
 
-  laid-here : Laid update (here .good .state .stage) (describedOf s) s (recordAt s k)
-  laid-here = laid update (here .good .state .stage) (describedOf s) s (recordAt s k) at-record (here .good .laid)
-
-  out-here : LaidOut s (recordAt s k)
-  out-here = laid-record n k laid-here framed less refl
-
-  -- the first byte of the identifier field is the record's RCNM
-  name-here : 0 < length (contentAt s (recordAt s k) 1) → byteAt (contentAt s (recordAt s k) 1) 0 ≡ rcnmAt s (recordAt s k)
-  name-here some =
-      let two = laid-here .two in
-      let size = content-length s (recordAt s k) 1 (fields-in at-record) (omega arith) in
-      part-byte s (idAt s (recordAt s k)) (fieldAt s (recordAt s k) 1 .length - 1) 0 (omega arith) ∙ rcnm-there s (recordAt s k)
-
-  fair-here : Fair update (here .good .state .aall) (here .good .state .nall) (kindAt s (recordAt s k) 1) (contentAt s (recordAt s k) 1)
-  fair-here =
-      let two = laid-here .two in
-      fair update (here .good .state .aall) (here .good .state .nall) s (recordAt s k) (fields-in at-record) (here .good .valued) 1 (omega arith)
-
-  vector-here : kindAt s (recordAt s k) 1 ≡ VRID → isVector (rcnmAt s (recordAt s k)) ≡ true
-  vector-here e =
-      let two = laid-here .two in
-      let long = full-vrid (contentAt s (recordAt s k) 1) (rw e at (laid-here .full 1 (omega arith))) in
-      let good = vrid-good update (contentAt s (recordAt s k) 1) (fair-vrid _ e fair-here) in
-      rw (name-here (omega arith)) at (good .rcnm)
-
-  feature-here : kindAt s (recordAt s k) 1 ≡ FRID → rcnmAt s (recordAt s k) ≡ 100
-  feature-here e =
-      let two = laid-here .two in
-      let long = full-frid (contentAt s (recordAt s k) 1) (rw e at (laid-here .full 1 (omega arith))) in
-      let good = frid-good update (contentAt s (recordAt s k) 1) (fair-frid _ e fair-here) in
-      sym (name-here (omega arith)) ∙ good .rcnm
-
-  factor-here : kindAt s (recordAt s k) 1 ≡ DSPM → numAt s (fieldAt s (recordAt s k) 1 .start + 16) 4 ≤ mostComf
-  factor-here e =
-      let two = laid-here .two in
-      let long = full-dspm (contentAt s (recordAt s k) 1) (rw e at (laid-here .full 1 (omega arith))) .long in
-      let size = content-length s (recordAt s k) 1 (fields-in at-record) (omega arith) in
-      let good = dspm-good (contentAt s (recordAt s k) 1) (fair-dspm _ e fair-here) in
-      rw (part-number s (fieldAt s (recordAt s k) 1 .start) (fieldAt s (recordAt s k) 1 .length - 1) 16 4 (omega arith)) at (good .comf .1)
-
-  identified : 2 ≤ here .good .state .stage → Identified s (recordAt s k)
-  identified two =
-      let few = here .stage .few in
-      let feature : kindAt s (recordAt s k) 1 ≡ FRID → Identified s (recordAt s k) = λ (e : kindAt s (recordAt s k) 1 ≡ FRID). feature-identified s (recordAt s k) out-here
-      (laid-featured laid-here out-here e) (feature-here e) in
-      ⊎-elim (λ (e2 : here .good .state .stage ≡ 2).
-      ⊎-elim (λ (v : kindAt s (recordAt s k) 1 ≡ VRID). vector-identified s (recordAt s k) out-here v (vector-one (rcnmAt s (recordAt s k)) (vector-here v))) feature
-      (laid-item laid-here e2))
-      (λ (other : here .good .state .stage ≡ 2 → ⊥). feature (laid-late laid-here (omega arith)))
-      (eq-or-ne (here .good .state .stage) 2)
+  item-here : 2 ≤ here .good .state .stage → LaidOut s (recordAt s k) × Identified s (recordAt s k)
+  item-here two = (out-here at-record (here .good), identified at-record (here .good) two (here .stage .few))
 
 -- all of them
 readable-items : (update : Bool) (s : List ℕ) (n : ℕ) → frameOf s ≡ Records n → ((j : ℕ) → 1 ≤ j → j < n → Here update (describedOf s) s j)
@@ -130,10 +134,10 @@ unfolding firstItem
 readable-items true s n framed here k low less =
     let h = here k (omega arith) less in
     let two : 2 ≤ h .good .state .stage = ⊎-elim (λ (e : k ≡ 2). h .stage .early e refl) (λ (o : k ≡ 2 → ⊥). h .stage .items (omega arith)) (eq-or-ne k 2) in
-    (out-here true s n k framed less h, identified true s n k framed less h two)
+    item-here true s n k framed less h two
 readable-items false s n framed here k low less =
     let h = here k (omega arith) less in
-    (out-here false s n k framed less h, identified false s n k framed less h (h .stage .items low))
+    item-here false s n k framed less h (h .stage .items low)
 
 first-few : (update : Bool) (n : ℕ) → (update ≡ false → 3 ≤ n) → 2 ≤ n → firstItem update ≤ n
 unfolding firstItem
@@ -158,7 +162,7 @@ dssi-read s n framed none =
     let one : 1 < n = omega arith in
     let h = g .0 1 (omega arith) one in
     let state = h .stage .dsid refl in
-    dssi-there n framed one (rw state at (laid-here false s n 1 framed one h))
+    dssi-there n framed one (rw state at (laid-here (at-record false s n 1 framed one h) (h .good)))
 
 -- DSPM of a cell, and its COMF
 factor-read : (s : List ℕ) → numAt s (fieldAt s (recordAt s 2) 1 .start + 16) 4 ≤ mostComf → comfAt s ≤ mostComf
@@ -172,8 +176,9 @@ dspm-read s n framed none =
     let two : 2 < n = omega arith in
     let h = g .0 2 (omega arith) two in
     let state = h .stage .dspm refl refl in
-    let laid = laid-here false s n 2 framed two h in
-    dspm-there n framed two (rw state at laid) (factor-read s (factor-here false s n 2 framed two h (laid-dspm laid state .1)))
+    let known = at-record false s n 2 framed two h in
+    let laid = laid-here known (h .good) in
+    dspm-there n framed two (rw state at laid) (factor-read s (factor-here known (h .good) (laid-dspm laid state .1)))
 
 -- ---- a file in which nothing was refused
 twice-none : (t : Repeat) → twiceRefusal t .code ≡ 0 → t .index ≡ 0

@@ -8,8 +8,8 @@ use native.Mathlib.Numerals.{add-one}
 use native.Mathlib.Omega.{arith}
 use lib.ListN.{length, drop, getD, set, length-set}
 use lib.Seq.{drop-cons, getD-set-same, getD-set-other}
+use Rattle.octets.proofs.ListLaws.{member-at}
 use Rattle.octets.proofs.Cases.{eq-or-ne, le-or-lt}
-use Rattle.words.proofs.OrderLaws.{member-at}
 use Rattle.octets.specs.Number.{bytesOf}
 use Rattle.octets.specs.Area.{Wrote, Going}
 use Rattle.octets.proofs.AreaLaws.{wrote-has, wrote-length, going-start}

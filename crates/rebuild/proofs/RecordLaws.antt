@@ -39,7 +39,7 @@ use Rattle.itemrows.proofs.RowLaws.{four-is}
 use Rattle.joining.proofs.PartLaws.{body-append}
 use Rattle.writing.proofs.JoinedLaws.{lengths, rows-append, lists-rows, lists-sum}
 use Rattle.itemrows.proofs.PlanLaws.{Planned}
-use Rattle.writing.proofs.FieldLaws.{join}
+use Rattle.asheld.proofs.PartLaws.{join}
 use Rattle.writing.proofs.CopyLaws.{list-piece, byte-as}
 use Rattle.changes.specs.Change.{Amendment, amendmentAt, editOf}
 use Rattle.changes.specs.Amend.{kindsOf}

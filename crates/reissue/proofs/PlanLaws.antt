@@ -1,6 +1,6 @@
 -- The held form's length and longest record, by the sizes of its parts; its bytes, part by part. Assumes nothing.
 use Prim.Native.Nat.{ℕ, _+_, _≤_, max}
-use mathlib.Core.Bool.{Bool}
+use mathlib.Core.Bool.{Bool, true}
 use mathlib.Core.List.{List, [], _∷_, _++_, append-assoc}
 use mathlib.Core.Path.{_≡_, refl, sym, ap, _∙_}
 use native.Mathlib.Omega.{arith}
@@ -29,10 +29,11 @@ use Rattle.held.specs.Chart.{headerOf}
 use Rattle.held.specs.Held.{tallyIn, dsidPieces, dspmPieces, itemsPieces, recordsOf, heldOf}
 use Rattle.held.specs.Limits.{longestOf, fits}
 use Rattle.names.specs.NameWords.{itemsAt}
-use Rattle.writing.specs.All.{writtenFrom, mostOf, AllSized}
+use Rattle.writing.specs.All.{writtenFrom, mostOf, AllSized, AllSame, AllMeasured}
+use Rattle.writing.specs.declared.all.Measured.{Measured}
 use Rattle.writing.specs.declared.all.Sizes.{Sizes}
 use Rattle.fronts.specs.Front.{dsidFields, dspmFields, DsidIn, DspmIn, DsidSized}
-use Rattle.reissue.specs.Plan.{chartFrom, Writing, withinLimits, Planned, frontBytes}
+use Rattle.reissue.specs.Plan.{chartFrom, Writing, withinLimits, Planned, frontBytes, SameTold}
 use Rattle.reissue.proofs.TallyLaws.{objects-length}
 use Rattle.layout.specs.General.{aallAt, nallAt}
 
@@ -123,6 +124,12 @@ pub plan-told : (s work : List ℕ) (m e f d p x y total : ℕ) (fit : Bool) (si
 plan-told s work m e f d p x y total fit sizes is next first second rest ex ey et told =
     let one = at-on s 0 0 e (at-start s) is in
     planned s work m d p x y total fit sizes (rw one at first) (rw (at-on s 1 e f one next) at second) rest ex ey et told
+
+pub same-told : (s work : List ℕ) (m : ℕ) (r : Measured) → AllMeasured s m work r → SameTold s m work (r .same)
+same-told s work m r told = record { is = told .same }
+
+pub copies : (s work : List ℕ) (m : ℕ) (same : Bool) → SameTold s m work same → same ≡ true → AllSame s m work
+copies s work m same told is = told .is is
 
 -- ---- records 0 to 2 written
 module _ (s : List ℕ) (first second : ℕ) (t : Tally) (a : List ℕ) (room : length (frontBytes s first second t) ≤ length a) where

@@ -5,12 +5,12 @@ use mathlib.Core.List.{List}
 use mathlib.Core.Path.{_≡_, refl, sym, ap, _∙_}
 use native.Mathlib.Omega.{arith}
 use lib.ListN.{length, getD}
+use Rattle.octets.proofs.ListLaws.{member-at}
 use Rattle.octets.specs.Number.{byteAt}
 use Rattle.iso8211.specs.File.{recordAt}
 use Rattle.iso8211.proofs.Promise.{record-in}
 use Rattle.words.specs.Words.{wordAt, wordsIn}
 use Rattle.words.specs.Order.{sorted}
-use Rattle.words.proofs.OrderLaws.{member-at}
 use Rattle.words.proofs.WordsLaws.{words-length, words-at}
 use Rattle.chart.specs.Read.{readFault}
 use Rattle.items.specs.Word.{wordOffset}

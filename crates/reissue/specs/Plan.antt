@@ -1,6 +1,6 @@
 -- What is known before the held form is written, and what is found. Nothing here need be believed. Assumes nothing.
 use Prim.Native.Nat.{ℕ, _+_, _-_, _≤_}
-use mathlib.Core.Bool.{Bool, _&&_}
+use mathlib.Core.Bool.{Bool, true, _&&_}
 use mathlib.Core.List.{List, _++_}
 use mathlib.Core.Path.{_≡_}
 use lib.ListN.{length}
@@ -20,7 +20,7 @@ use Rattle.held.specs.Chart.{Chart, headerOf, chartOf}
 use Rattle.held.specs.Held.{heldOf}
 use Rattle.held.specs.Limits.{fits}
 use Rattle.names.specs.NameWords.{itemsAt}
-use Rattle.writing.specs.All.{Words}
+use Rattle.writing.specs.All.{Words, AllSame}
 use Rattle.fronts.specs.Front.{dsidFields, dspmFields, DsidIn, DspmIn}
 use Rattle.reissue.specs.declared.plan.Plan.{Plan}
 use Rattle.layout.specs.General.{aallAt, nallAt}
@@ -51,6 +51,10 @@ withinLimits n most total = leb n mostRecords && (leb most longestRecord && leb 
 pub record Planned (c : Chart) (p : Plan) : Type 0 where
   pub fits-is : p .fits ≡ fits c
   pub total-is : p .total ≡ length (heldOf c)
+
+-- `same` says that the records of the first m words are the held form's, but for their running numbers
+pub record SameTold (s : List ℕ) (m : ℕ) (work : List ℕ) (same : Bool) : Type 0 where
+  pub is : same ≡ true → AllSame s m work
 
 -- records 0 to 2, DSID at a, DSPM at b
 unfoldable pub frontBytes : List ℕ → ℕ → ℕ → Tally → List ℕ

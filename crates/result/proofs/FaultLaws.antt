@@ -21,19 +21,19 @@ use Rattle.answers.specs.Answer.{refusal}
 use Rattle.answers.specs.declared.refusal.Refusal.{Refusal}
 
 -- the first i items, of which j are changed, have no code: the refusal is that of the rest
-pub record Judged (code : Item → ℕ) (cell update work : List ℕ) (end count edits i j : ℕ) : Type 0 where
+pub record JudgedFrom (code : Item → ℕ) (cell update work : List ℕ) (end count edits i j : ℕ) : Type 0 where
   pub is : faultFrom code 3 (resultItems cell update work end count edits) ≡ faultFrom code (3 + i) (itemsBy cell update (placesFrom work end count edits i j))
   pub able : AllAble cell update (placesFrom work end count edits i j)
   pub left : j ≤ edits
 
-pub judged-start : (code : Item → ℕ) {cell update work : List ℕ} {end count edits : ℕ} → Laid cell update work end count edits → Judged code cell update work end count edits 0 0
+pub judged-start : (code : Item → ℕ) {cell update work : List ℕ} {end count edits : ℕ} → Laid cell update work end count edits → JudgedFrom code cell update work end count edits 0 0
 judged-start code {cell} {update} {work} {end} {count} {edits} laid = record {
   is = rw (places-start work end count edits);
   able = rw (places-start work end count edits) (laid .able);
   left = omega arith;
 }
 
-module _ {code : Item → ℕ} {cell update work : List ℕ} {end count edits i j : ℕ} (judged : Judged code cell update work end count edits i j) {p : At}
+module _ {code : Item → ℕ} {cell update work : List ℕ} {end count edits i j : ℕ} (judged : JudgedFrom code cell update work end count edits i j) {p : At}
     (head : Headed work end count edits i j p) where
   pub judged-able : Able cell update p
   judged-able = walk-able head (judged .able)
@@ -48,12 +48,12 @@ module _ {code : Item → ℕ} {cell update work : List ℕ} {end count edits i 
     pub judged-found : (r : Refusal) → (c ≡ 0 → ⊥) → r ≡ refusal c (3 + i) 0 → r ≡ faultFrom code 3 (resultItems cell update work end count edits)
     judged-found r ne e = e ∙ sym (turn ∙ rw (← told, ne-eqb c 0 ne))
 
-    pub judged-on : c ≡ 0 → Judged code cell update work end count edits (i + 1) (j + p .change)
+    pub judged-on : c ≡ 0 → JudgedFrom code cell update work end count edits (i + 1) (j + p .change)
     judged-on e =
         let three : 3 + i + 1 ≡ 3 + (i + 1) = omega arith in
         record { is = turn ∙ rw (← told, e, three); able = walk-rest head (judged .able); left = head .left }
 
-pub judged-done : {code : Item → ℕ} {cell update work : List ℕ} {end count edits i j : ℕ} → Judged code cell update work end count edits i j → count ≤ i
+pub judged-done : {code : Item → ℕ} {cell update work : List ℕ} {end count edits i j : ℕ} → JudgedFrom code cell update work end count edits i j → count ≤ i
     → (r : Refusal) → r ≡ refusal 0 0 0 → r ≡ faultFrom code 3 (resultItems cell update work end count edits)
 unfolding faultFrom
 judged-done {code} {cell} {update} {work} {end} {count} {edits} {i} {j} judged high r e = e ∙ sym (judged .is ∙ rw (places-end work end count edits i j high))

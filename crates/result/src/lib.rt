@@ -12,6 +12,7 @@ ghost use Rattle.resultitems.specs.Result.{resultItems};
 ghost use Rattle.resultitems.specs.Able.{Laid, Rooms};
 use answers::Refusal;
 use answers::refusal::refuse;
+use lookups::starts::starts_of;
 use merge::walk::item_at;
 use resultitems::item::code_of;
 use resultitems::item::note_of;
@@ -85,11 +86,24 @@ fn items_fault(
     ensures { λ r. ⌜ (r ≡ faultFrom (notedCode comf (now (work .entry)) count v) 3 (resultItems (now (cell .entry)) (now (update .entry)) (now (work .entry)) end count edits))
         × Rooms (now (join .exit)) (now (table .exit)) (now (room .exit)) ⌝ }
 {
+    let starts = starts_of(work, count);
     let mut i: usize = 0;
     let mut j: usize = 0;
     while i < count {
         let a = item_at(work, end, count, edits, i, j);
-        let code = code_of(cell, update, a, comf, work, count, v, join, table, room);
+        let code = code_of(
+            cell,
+            update,
+            a,
+            comf,
+            work,
+            count,
+            v,
+            starts,
+            join,
+            table,
+            room,
+        );
         if code != 0 {
             return refuse(code, 3 + i, 0);
         }

@@ -8,6 +8,7 @@ ghost use Rattle.itemrows.specs.Plain.{Stood};
 ghost use Rattle.resultitems.specs.Result.{objectOf};
 ghost use Rattle.resultitems.specs.Able.{Able, Rooms};
 use items::word;
+use lookups::starts::Starts;
 use merge::At;
 use rebuild::record::put_edited_record;
 use topology::item_code;
@@ -57,7 +58,8 @@ pub fn note_of(
     note_at(cell, at, rank)
 }
 
-// The code of an item, by the words and notes of all m, of which v are vectors.
+// The code of an item, by the words and notes of all m, of which v are vectors; `starts` is where the
+// words of each class may begin.
 pub fn code_of(
     cell: &[u8],
     update: &[u8],
@@ -66,6 +68,7 @@ pub fn code_of(
     work: &[u8],
     m: usize,
     v: usize,
+    starts: Starts,
     join: &mut [u8],
     table: &mut [u32],
     room: &mut [u8],
@@ -76,11 +79,11 @@ pub fn code_of(
 {
     if a.change == 1 {
         let place = edited(cell, update, a, join, table, room);
-        return item_code(room, place, comf, work, m, v);
+        return item_code(room, place, comf, work, m, v, starts);
     }
     let at = (a.word % word::MARK_WEIGHT) as usize;
     if a.word / word::MARK_WEIGHT % 2 == 1 {
-        return item_code(update, at, comf, work, m, v);
+        return item_code(update, at, comf, work, m, v, starts);
     }
-    item_code(cell, at, comf, work, m, v)
+    item_code(cell, at, comf, work, m, v, starts)
 }

@@ -10,7 +10,7 @@ use answers::answer::answered;
 use answers::answer::filed;
 use answers::codes::ROOM;
 use answers::codes::SIZE;
-use counted::comf::comf_of;
+use layout::general::comf_of;
 use merge::woven;
 use renewal::write::planned;
 use renewal::write::put_result;

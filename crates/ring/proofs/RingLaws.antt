@@ -60,11 +60,11 @@ module _ (place : ℕ → Found) (node : ℕ → ℕ → ℕ) (e : List ℕ) (es
     step-is = edge-told (place (nameIn e)) t (stepOf node e) (sym told ∙ is) .1
 
     -- an edge between two rings, and one in a ring that came to `here`
-    edge-first : (exterior : Bool) → namedAnd place (e ∷ es) (ringsFrom node exterior false 0 0 (e ∷ es)) ≡ namedAnd place es (behind node exterior (t .from) t es)
+    pub edge-first : (exterior : Bool) → namedAnd place (e ∷ es) (ringsFrom node exterior false 0 0 (e ∷ es)) ≡ namedAnd place es (behind node exterior (t .from) t es)
     unfolding ringsFrom along behind
     edge-first exterior = named-on _ ∙ rw (step-is, eq-eqb (t .from) (t .from) refl)
 
-    edge-joined : (exterior : Bool) (start here : ℕ) → t .from ≡ here
+    pub edge-joined : (exterior : Bool) (start here : ℕ) → t .from ≡ here
         → namedAnd place (e ∷ es) (ringsFrom node exterior true start here (e ∷ es)) ≡ namedAnd place es (behind node exterior start t es)
     unfolding ringsFrom along behind
     edge-joined exterior start here h = named-on _ ∙ rw (step-is, eq-eqb (t .from) here h)

@@ -37,6 +37,11 @@ pub ends-both : (es : List (List ℕ)) (a b : ℕ) → a ≡ through (nodeStep 1
 unfolding endsWith nodeWith
 ends-both es a b first last = rw (first, last)
 
+-- the same of two pointers: p and q are the nodes behind the first
+pub ends-two : (e f : List ℕ) (p q a b : ℕ) → p ≡ nodeStep 1 0 e → a ≡ nodeStep 1 p f → q ≡ nodeStep 2 0 e → b ≡ nodeStep 2 q f → a * 4294967296 + b ≡ endsWith (e ∷ f ∷ [])
+unfolding through
+ends-two e f p q a b one first two last = ends-both (e ∷ f ∷ []) a b (rw (first, one)) (rw (last, two))
+
 -- ---- the note of an edge
 getD-past : (l : List ℕ) (i : ℕ) → length l ≤ i → getD l i 0 ≡ 0
 getD-past [] i h = refl

@@ -1,5 +1,6 @@
 // Where an edge begins and ends.
 ghost use Prim.Native.Nat.{_≤_, _<_};
+ghost use mathlib.Core.List.{[], _∷_};
 ghost use mathlib.Core.Path.{_≡_};
 ghost use lib.ListN.{length};
 ghost use Rattle.table.specs.Table.{VRPT};
@@ -44,4 +45,14 @@ pub fn ends_of(s: &[u8], at: usize, h: Head) -> u64
         last = node_step(2, last, &s[from..to]);
         c = after;
     }
+}
+
+// The same of an edge that has these two VRPT.
+pub fn ends_between(a: &[u8], b: &[u8]) -> u64
+    requires { ⌜ (9 ≤ length (now a)) × (9 ≤ length (now b)) ⌝ }
+    ensures { λ r. ⌜ r ≡ endsWith (now (a .entry) ∷ now (b .entry) ∷ []) ⌝ }
+{
+    let first = node_step(1, node_step(1, 0, a), b);
+    let last = node_step(2, node_step(2, 0, a), b);
+    first as u64 * word::BEGIN_WEIGHT + last as u64
 }

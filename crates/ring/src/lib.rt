@@ -27,8 +27,11 @@ pub mod step;
 // The begin and the end of the edge at `at` in one word.
 pub use ends::ends_of;
 
+// The same of an edge that has these two VRPT.
+pub use ends::ends_between;
+
 // Whether an edge of the exterior ring, or of another, may have this USAG.
-fn usage_good(exterior: bool, usage: u32) -> bool
+pub fn usage_good(exterior: bool, usage: u32) -> bool
     ensures { λ r. ⌜ r ≡ usageGood exterior usage ⌝ }
 {
     if !exterior {

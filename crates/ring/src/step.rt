@@ -28,7 +28,7 @@ pub enum Taken {
 }
 
 // The ends of the edge that is item i, by its note; 0 where it is none.
-fn ends_at(work: &[u8], m: usize, v: usize, i: usize) -> u64
+pub fn ends_at(work: &[u8], m: usize, v: usize, i: usize) -> u64
     requires { ⌜ Noted (now work) m v ⌝ }
     ensures { λ r. ⌜ r ≡ getD (wordsIn (now (work .entry)) m v) i 0 ⌝ }
 {

@@ -8,16 +8,18 @@ use native.Mathlib.Omega.{arith}
 use lib.ListN.{length, getD}
 use lib.Dec.{eqb}
 use borrow.Author.Tests.{eqb-true, eq-eqb}
+use Rattle.octets.proofs.ListLaws.{member-at, member-place}
+use Rattle.octets.specs.Lists.{isIn}
 use Rattle.octets.specs.Number.{byteAt}
 use Rattle.octets.proofs.Cases.{true-or-false, eq-or-ne, le-or-lt}
 use Rattle.octets.proofs.Tests.{both, told-no, told-yes}
 use Rattle.iso8211.specs.Record.{endOf}
 use Rattle.iso8211.specs.File.{recordAt}
 use Rattle.iso8211.proofs.Promise.{at-next}
-use Rattle.words.specs.Order.{sorted, isIn}
-use Rattle.words.proofs.OrderLaws.{sorted-in-order, sorted-member, member-at, member-place}
+use Rattle.words.specs.Order.{sorted}
+use Rattle.words.proofs.OrderLaws.{sorted-in-order, sorted-member}
 use Rattle.items.specs.Identity.{rcnmAt, rcidAt, rankOf, nameFrom, nameAt, wordFor}
-use Rattle.items.specs.Word.{nameOf, wordOffset}
+use Rattle.items.specs.Word.{nameOf, wordOffset, name-weight}
 use Rattle.items.proofs.IdentityLaws.{name-rank, name-rcid, word-name, word-offset}
 use Rattle.names.specs.NameWords.{nameWords, wordTwice}
 use Rattle.lookups.specs.LookupWords.{lookup}
@@ -154,10 +156,10 @@ some-first true = omega arith
 some-first false = omega arith
 
 module _ {update : Bool} {s : List ℕ} {n : ℕ} (good : Readable update s n) (once : twiceOf update s n .index ≡ 0) where
-  once-least : leastRepeat (sorted (nameWords update s n)) ≡ 16777216
+  once-least : leastRepeat (sorted (nameWords update s n)) ≡ name-weight
   once-least =
       let ws = nameWords update s n in
-      ⊎-elim (λ (alone : (leastRepeat (sorted ws) ≡ 16777216) × (wordTwice (firstItem update) [] ws ≡ record { index = 0; offset = 0 })). alone .0)
+      ⊎-elim (λ (alone : (leastRepeat (sorted ws) ≡ name-weight) × (wordTwice (firstItem update) [] ws ≡ record { index = 0; offset = 0 })). alone .0)
       (λ (f : First (firstItem update) ws (leastRepeat (sorted ws))).
       let z : firstItem update + f .j ≡ 0 = ap (λ (r : Repeat). r .index) (sym (f .is) ∙ sym (twice-words s n (good .framed) (good .short) update (good .head))) ∙ once in
       let some = some-first update in

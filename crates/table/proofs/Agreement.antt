@@ -11,7 +11,7 @@ use Rattle.table.specs.Offsets.{FFPT-COMT, ATVL, XCOO, control-index, co
 use Rattle.table.specs.Widths.{written, isDigit, countAfter, letterAfter, sizeAfter, primitivesFrom, isText, widthOf, fixedOf, textOf, listOf, labelsFrom, same}
 use Rattle.table.specs.Widths.{shapeFollows, shapesFollow, offsetIn, Subfield, subfield, offsetFollows, offsetsFollow}
 
--- fixed bytes, text mark and list mark of all 18 rows follow from their formats and labels
+-- fixed bytes, text mark and list mark of all rows follow from their formats and labels
 pub shapes-follow : shapesFollow table ≡ true
 unfolding bytes table written isDigit countAfter letterAfter sizeAfter primitivesFrom isText widthOf fixedOf textOf listOf labelsFrom same shapeFollows shapesFollow
 shapes-follow = refl

@@ -3,3 +3,4 @@ pub mod Text
 pub mod Table
 pub mod Offsets
 pub mod Widths
+pub mod Premises

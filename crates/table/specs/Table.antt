@@ -112,6 +112,10 @@ first = 18
 abbrev pub unknown : ℕ
 unknown = 19
 
+-- how many kinds that makes
+abbrev pub kindCount : ℕ
+kindCount = 20
+
 -- the four bytes of a tag as a number, the first the highest
 unfoldable pub asNumber : List ℕ → ℕ → ℕ
 asNumber [] led = led

@@ -5,3 +5,4 @@ pub mod NotesLaws
 pub mod BytesLaws
 pub mod ReachLaws
 pub mod TopologyLaws
+pub mod QuickLaws

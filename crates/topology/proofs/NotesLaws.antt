@@ -14,15 +14,11 @@ use Rattle.words.proofs.WordsLaws.{words-length, words-at, word-front, words-sp
 use Rattle.words.proofs.SortLaws.{sorts-before, sorts-in-order}
 use borrow.Author.Tests.{ne-eqb}
 use Rattle.octets.specs.Number.{byteAt}
-use Rattle.iso8211.specs.Premises.{HeadOf}
-use Rattle.iso8211.specs.declared.field.Head.{Head}
 use Rattle.table.specs.Table.{VRPT}
-use Rattle.items.specs.Premises.{Listed, Featured}
 use Rattle.items.specs.Lists.{entriesAt}
 use Rattle.items.specs.Identity.{rcnmAt, foidAt}
 use Rattle.items.specs.Word.{wordOffset, featureWord, rankIn}
 use Rattle.items.specs.Item.{itemAt}
-use Rattle.items.proofs.KindLaws.{vrpt-list}
 use Rattle.items.proofs.ItemLaws.{vrpt-said, feature-said}
 use Rattle.names.specs.NameWords.{itemsAt}
 use Rattle.names.specs.Premises.{Stands}
@@ -46,11 +42,8 @@ module _ {s : List ℕ} {at rank : ℕ} (ranked : Ranked s at rank) where
   unfolding noteFor
   note-none feature edge = rw (← ranked .is, ne-eqb rank 3 feature, ne-eqb rank 2 edge)
 
-  pub ranked-listed : (h : Head) → HeadOf s at h → Listed s at h VRPT
-  ranked-listed h head = record { laid = ranked .laid; head = head; list = vrpt-list }
-
-  pub ranked-featured : rank ≡ 3 → Featured s at
-  ranked-featured e = ranked .known .feature (last-feature _ (sym (ranked .is) ∙ e) (ranked .known .class))
+  pub ranked-class : rank ≡ 3 → rcnmAt s at ≡ 100
+  ranked-class e = last-feature _ (sym (ranked .is) ∙ e) (ranked .known .class)
 
 pub stands-ranked : {s : List ℕ} {w : ℕ} → Stands s w → ((i : ℕ) → byteAt s i < 256) → Ranked s (wordOffset w) (rankIn w)
 stands-ranked stands bytes = record { laid = stands .laid; known = stands .known; is = stand-rank stands bytes }

@@ -8,10 +8,11 @@ use native.Mathlib.Omega.{arith}
 use lib.ListN.{length, getD, take, drop}
 use lib.Dec.{eqb}
 use borrow.Author.Tests.{eq-eqb, ne-eqb, eqb-true, lt-ltb, le-ltb}
+use Rattle.octets.specs.Lists.{isIn}
 use Rattle.octets.proofs.Cases.{le-or-lt, eq-or-ne}
 use Rattle.table.specs.Table.{VRPT}
 use Rattle.words.specs.Words.{wordsIn}
-use Rattle.words.specs.Order.{Sorted, isIn}
+use Rattle.words.specs.Order.{Sorted}
 use Rattle.words.specs.Find.{firstFrom}
 use Rattle.words.proofs.OrderLaws.{sorted-tail, sorted-member}
 use Rattle.items.specs.Identity.{rcnmAt, rankOf, nameFrom}

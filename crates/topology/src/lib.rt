@@ -1,6 +1,7 @@
 // Topology, codes 17 to 19: Shape, Pointer and Ring of all items in held order. It takes the rules of
-// one item from `shape`, `pointer` and `ring`, and the held order from the words that reading left in
-// the work area.
+// one item from `shape`, `pointer` and `ring`, what tells quickly that an item has no fault from
+// `quickvectors` and `quickfeatures`, and the held order from the words that reading left in the work
+// area.
 ghost use Prim.Native.Nat.{_-_, _*_, _≤_};
 ghost use mathlib.Core.Bool.{false};
 ghost use mathlib.Core.Path.{_≡_};
@@ -10,14 +11,17 @@ ghost use Rattle.words.specs.Words.{wordsIn};
 ghost use Rattle.items.specs.Item.{itemAt};
 ghost use Rattle.topology.specs.Topology.{topologyFault};
 ghost use Rattle.topology.specs.Notes.{notedCode, wordFault};
-use counted::comf::comf_of;
 use iso8211::field::head_of;
 use items::identity::prim_of;
 use items::identity::rcnm_of;
 use items::word;
+use layout::general::comf_of;
+use lookups::starts::Starts;
+use lookups::starts::starts_of;
 use note::prepare;
 use pointer::lnams_code;
 use pointer::pointer_code;
+use quick::is_faultless;
 use ring::area_code;
 use shape::shape_code;
 use words::get;
@@ -28,6 +32,7 @@ use answers::Refusal;
 use answers::refusal::refuse;
 
 pub mod note;
+pub mod quick;
 
 // The note of the item at `at`, whose class has this rank.
 pub use note::note_at;
@@ -38,7 +43,7 @@ pub use note::sort_notes;
 
 // The code of the item at `at`, by the words and notes of m items, of which v are vectors. Of an area
 // Pointer and Ring are judged together, of anything else there is no Ring.
-pub fn item_code(s: &[u8], at: usize, comf: u32, work: &[u8], m: usize, v: usize) -> u32
+fn judged_code(s: &[u8], at: usize, comf: u32, work: &[u8], m: usize, v: usize) -> u32
     requires { ⌜ LaidOut (now s) at × Identified (now s) at × Noted (now work) m v × (comf ≤ mostComf) ⌝ }
     ensures { λ r. ⌜ r ≡ notedCode comf (now (work .entry)) m v (itemAt (now (s .entry)) at) ⌝ }
 {
@@ -60,15 +65,35 @@ pub fn item_code(s: &[u8], at: usize, comf: u32, work: &[u8], m: usize, v: usize
     area_code(s, at, h, work, m, v)
 }
 
+// The same, without asking the rules one by one where the item is seen to have no fault.
+pub fn item_code(
+    s: &[u8],
+    at: usize,
+    comf: u32,
+    work: &[u8],
+    m: usize,
+    v: usize,
+    starts: Starts,
+) -> u32
+    requires { ⌜ LaidOut (now s) at × Identified (now s) at × Noted (now work) m v × (comf ≤ mostComf) ⌝ }
+    ensures { λ r. ⌜ r ≡ notedCode comf (now (work .entry)) m v (itemAt (now (s .entry)) at) ⌝ }
+{
+    if is_faultless(s, at, comf, work, m, v, starts) {
+        return 0;
+    }
+    judged_code(s, at, comf, work, m, v)
+}
+
 // The first of m items that has a code.
 fn items_fault(s: &[u8], comf: u32, work: &[u8], m: usize, v: usize) -> Refusal
     requires { ⌜ AllStand (now s) (wordsIn (now work) 0 m) × Noted (now work) m v × (comf ≤ mostComf) × (m ≤ 5242880) ⌝ }
     ensures { λ r. ⌜ r ≡ wordFault (notedCode comf (now (work .entry)) m v) (now (s .entry)) 3 (wordsIn (now (work .entry)) 0 m) ⌝ }
 {
+    let starts = starts_of(work, m);
     let mut i: usize = 0;
     while i < m {
         let at = (get(work, i) % word::NAME_WEIGHT) as usize;
-        let code = item_code(s, at, comf, work, m, v);
+        let code = item_code(s, at, comf, work, m, v, starts);
         if code != 0 {
             return refuse(code, 3 + i, at);
         }

@@ -56,7 +56,7 @@ fn connected_good(s: &[u8], at: usize, h: Head) -> bool
 }
 
 // Whether a VRPT names a connected node as one end of an edge.
-fn end_good(e: &[u8]) -> bool
+pub fn end_good(e: &[u8]) -> bool
     requires { ⌜ 9 ≤ length (now e) ⌝ }
     ensures { λ r. ⌜ r ≡ endGood (now (e .entry)) ⌝ }
 {
@@ -96,7 +96,7 @@ fn ends_good(s: &[u8], at: usize, h: Head) -> bool
 }
 
 // The TOPI of a VRPT.
-fn topi_of(e: &[u8]) -> u32
+pub fn topi_of(e: &[u8]) -> u32
     requires { ⌜ 9 ≤ length (now e) ⌝ }
     ensures { λ r. ⌜ (r ≡ byteAt (now (e .entry)) 7) × (r < 256) ⌝ }
 {

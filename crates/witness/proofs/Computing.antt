@@ -2,6 +2,7 @@
 -- all that it stands for, so that a call on a small file computes. Nothing here need be believed. Assumes nothing.
 use Prim.Native.Nat.{ℕ}
 use mathlib.Core.List.{flatten}
+use Rattle.octets.specs.Lists.{isIn}
 use Rattle.octets.specs.Digits.{isDigit, digitsFrom, numberAt, digitsOf, fewestFrom, fewest}
 use Rattle.octets.specs.Number.{numAt, bytesOf}
 use Rattle.fieldparts.specs.Descriptive.{separatorIn, separatorAt, partsAt, partsOf}
@@ -17,7 +18,7 @@ use Rattle.iso8211.specs.Record.{fieldGood, inRow, bodyGood, recordGood}
 use Rattle.fieldparts.specs.Same.{sameList}
 use Rattle.entries.specs.Entries.{textFrom, textLen, entryLen, entriesFrom, entriesOf, wholeGood}
 use Rattle.entries.specs.Rules.{allOf, through}
-use Rattle.words.specs.Order.{insert, sorted, isIn}
+use Rattle.words.specs.Order.{insert, sorted}
 use Rattle.table.specs.Table.{table, asNumber, rowOf, among, kindOf, tagOf}
 use Rattle.table.specs.Text.{bytes}
 use Rattle.values.specs.Class.{isGeo, isMeta, isCollection, classOf, isClass, objlGood}

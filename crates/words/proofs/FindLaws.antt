@@ -7,12 +7,13 @@ use mathlib.Core.Logic.{_⊎_, inl, inr, ⊎-elim}
 use native.Mathlib.Omega.{arith}
 use lib.ListN.{length, getD}
 use borrow.Author.Tests.{lt-ltb, le-ltb}
+use Rattle.octets.proofs.ListLaws.{member-at, member-none}
+use Rattle.octets.specs.Lists.{isIn}
 use Rattle.octets.proofs.Cases.{le-or-lt, eq-or-ne}
 use Rattle.words.specs.Words.{wordAt, wordsIn}
-use Rattle.words.specs.Order.{Sorted, isIn}
+use Rattle.words.specs.Order.{Sorted}
 use Rattle.words.specs.Find.{firstFrom}
 use Rattle.words.proofs.WordsLaws.{words-length, words-at}
-use Rattle.words.proofs.OrderLaws.{member-at, member-none}
 
 -- ---- the walk's two equations
 first-on : (w x : ℕ) (l : List ℕ) → x < w → firstFrom w (x ∷ l) ≡ suc (firstFrom w l)

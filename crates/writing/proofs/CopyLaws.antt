@@ -28,7 +28,8 @@ use Rattle.itemfields.specs.Fields.{piece, listPiece, listPieces, vectorKinds, 
 use Rattle.itemfields.proofs.BytesLaws.{list-bytes, num-bytes}
 use Rattle.itemrows.specs.Plain.{tagsOf, Writable, ItemSized}
 use Rattle.itemrows.specs.Joined.{fieldPiece, fieldPieces, idKinds, keptPieces, leadPieces, joinedPieces, Tagged, Lead, Sized}
-use Rattle.writing.proofs.FieldLaws.{join, content-long, content-fits, content-is, field-is, filled-as}
+use Rattle.asheld.proofs.PartLaws.{join}
+use Rattle.writing.proofs.FieldLaws.{content-long, content-fits, content-is, field-is, filled-as}
 
 -- ---- the fields before the lists
 module _ (s : List ℕ) (at : ℕ) (laid : LaidOut s at) where

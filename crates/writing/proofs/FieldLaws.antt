@@ -5,8 +5,8 @@ use mathlib.Core.List.{List, [], _∷_, _++_, append-assoc}
 use mathlib.Core.Path.{_≡_, refl, sym, ap, _∙_}
 use native.Mathlib.Numerals.{add-one}
 use native.Mathlib.Omega.{arith}
-use lib.ListN.{length, take, drop, getD, length-drop, take-append-drop, drop-of-length-le}
-use lib.Seq.{length-take-le, take-suc, take-append-add, drop-cons, drop-drop, getD-drop}
+use lib.ListN.{length, take, drop, getD, length-drop, drop-of-length-le}
+use lib.Seq.{length-take-le, take-suc, drop-cons, getD-drop}
 use Rattle.octets.specs.Number.{byteAt}
 use Rattle.iso8211.specs.Leader.{baseAt, lengthDigits, positionDigits}
 use Rattle.iso8211.specs.Directory.{tag, len, position, rowAt, rowWidth}
@@ -19,15 +19,7 @@ use Rattle.items.specs.Premises.{LaidOut}
 use Rattle.records.specs.Premises.{pieceOf, piecesFrom}
 use Rattle.records.specs.Written.{bodyOf, rowsFor}
 use Rattle.itemrows.proofs.ChosenLaws.{Full, full-none, full-more}
-
--- ---- parts of a list, one behind the other
-pub join : (l : List ℕ) (p q a b : ℕ) → p + a ≡ q → q ≤ length l → take a (drop p l) ++ take b (drop q l) ≡ take (a + b) (drop p l)
-join l p q a b e h =
-    let front = take a (drop p l) in
-    let long : length front ≡ a = length-take-le a (drop p l) (rw length-drop (omega arith)) in
-    let whole : drop p l ≡ front ++ drop q l =
-    sym (take-append-drop a (drop p l)) ∙ ap (λ (r : List ℕ). front ++ r) (drop-drop a p l ∙ ap (λ (k : ℕ). drop k l) e) in
-    sym (ap (λ (r : List ℕ). take (a + b) r) whole ∙ ap (λ (k : ℕ). take (k + b) (front ++ drop q l)) (sym long) ∙ take-append-add front (drop q l) b)
+use Rattle.asheld.proofs.PartLaws.{join}
 
 -- ---- one field
 module _ (s : List ℕ) (at : ℕ) (laid : LaidOut s at) (j : ℕ) (here : j < countAt s at) where

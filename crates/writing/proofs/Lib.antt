@@ -4,6 +4,7 @@ pub mod FieldLaws
 pub mod CopyLaws
 pub mod StandLaws
 pub mod PlainLaws
+pub mod HeldLaws
 pub mod AllLaws
 pub mod WritableLaws
 pub mod StoodLaws

@@ -39,14 +39,14 @@ use Rattle.writing.proofs.FieldLaws.{content-long, filled-as, fields-fu
 use Rattle.writing.proofs.CopyLaws.{vector-pieces, feature-pieces}
 
 -- ---- a kind of the table has one tag
-past-table : (t : ℕ) → 18 ≤ cond (eqb t 808464433) first unknown
+past-table : (t : ℕ) → first ≤ cond (eqb t 808464433) first unknown
 past-table t =
     ⊎-elim
     (λ (e : eqb t 808464433 ≡ true). rw e (omega arith))
     (λ (e : eqb t 808464433 ≡ false). rw e (omega arith))
     (true-or-false (eqb t 808464433))
 
-among-tag : (other : Row) (rs : List Row) (j t k : ℕ) → j + length rs ≡ 18 → among rs j t ≡ k → k < 18
+among-tag : (other : Row) (rs : List Row) (j t k : ℕ) → j + length rs ≡ first → among rs j t ≡ k → k < first
     → (j ≤ k) × (t ≡ asNumber (bytes (getD rs (k - j) other .tag)) 0)
 unfolding among
 among-tag other [] j t k full e h = absurd (let p = past-table t in omega arith)
@@ -63,7 +63,7 @@ among-tag other (r ∷ rs) j t k full e h =
     (omega arith, rw one (rest .1)))
     (true-or-false (eqb t (asNumber (bytes (r .tag)) 0)))
 
-kind-tag : (t k : ℕ) → kindOf t ≡ k → k < 18 → t ≡ tagOf k
+kind-tag : (t k : ℕ) → kindOf t ≡ k → k < first → t ≡ tagOf k
 unfolding kindOf tagOf rowOf table
 kind-tag t k e h = among-tag (rowOf first) table 0 t k refl e h .1 ∙ rw (sub-zero k)
 

@@ -8,13 +8,13 @@ use native.Mathlib.Nat.{add-zero}
 use native.Mathlib.Omega.{arith}
 use lib.ListN.{length}
 use borrow.Author.Tests.{eq-eqb, ne-eqb}
+use Rattle.octets.proofs.ListLaws.{part-byte}
 use Rattle.octets.specs.Number.{byteAt}
 use Rattle.iso8211.specs.Field.{countAt, fieldAt}
 use Rattle.iso8211.specs.File.{recordAt}
 use Rattle.table.specs.Table.{VRID, FRID}
 use Rattle.values.specs.Vrid.{isVector}
 use Rattle.headvalues.proofs.Promise.{vrid-good, frid-good}
-use Rattle.attributes.proofs.PartLaws.{part-byte}
 use Rattle.layout.specs.Record.{kindAt, contentAt}
 use Rattle.layout.proofs.Promise.{full-vrid, full-frid}
 use Rattle.fieldvalue.specs.Value.{valueFault}

@@ -1,24 +1,27 @@
 -- The invariant: the refusal from item i on, of the modifies j being behind, is that from the first.
-use Prim.Native.Nat.{_-_, _≤_}
+use Prim.Native.Nat.{_+_, _-_, _≤_}
 use mathlib.Core.Path.{_≡_}
 use lib.ListN.{length}
 use Rattle.topology.specs.Notes.{notedCode}
 use Rattle.resultitems.specs.Able.{Rooms}
-use Rattle.result.proofs.FaultLaws.{Judged, judged-start, judged-able, judged-found, judged-on, judged-done}
+use Rattle.result.proofs.FaultLaws.{JudgedFrom, judged-start, judged-able, judged-found, judged-on, judged-done}
 use borrow.Author.Needs.{needs}
 use Rattle.result.proofs.items_fault.Statement.{statement}
 use Rattle.result.proofs.items_fault.Tie as tie
 
 abbrev Inv-loop : tie.InvT-loop
-Inv-loop cell update comf work end count edits v join₀ table₀ room₀ i₀ j₀ join table room i j =
-    (i ≤ count) × Judged (notedCode comf work count v) cell update work end count edits i j × Rooms join table room × (length join ≡ length join₀)
+Inv-loop cell update comf work end count edits v join₀ table₀ room₀ starts i₀ j₀ join table room i j =
+    (i ≤ count) × (count + edits ≤ 2305843009213693952) × JudgedFrom (notedCode comf work count v) cell update work end count edits i j × Rooms join table room × (length join ≡ length join₀)
     × (length table ≡ length table₀) × (length room ≡ length room₀)
 
 abbrev μ-loop : tie.MeasureT-loop
-μ-loop cell update comf work end count edits v join₀ table₀ room₀ i₀ j₀ join table room i j = count - i
+μ-loop cell update comf work end count edits v join₀ table₀ room₀ starts i₀ j₀ join table room i j = count - i
+
+starts-of-requires : tie.Need-starts-of-requires Inv-loop μ-loop
+starts-of-requires c κs = (search needs, search needs)
 
 loop-holds : tie.Need-loop-holds Inv-loop μ-loop
-loop-holds c = search (needs, judged-start)
+loop-holds c = (search needs, search needs, search (needs, judged-start), search needs, search needs, search needs, search needs)
 
 item-at-requires : tie.Need-item-at-requires Inv-loop μ-loop
 item-at-requires c κs = search needs
@@ -54,7 +57,7 @@ loop-less : tie.Need-loop-less Inv-loop μ-loop
 loop-less c = search needs
 
 loop-again : tie.Need-loop-again Inv-loop μ-loop
-loop-again c = (search needs, search (needs, judged-on), search needs, search needs, search needs, search needs)
+loop-again c = (search needs, search needs, search (needs, judged-on), search needs, search needs, search needs, search needs)
 
 refuse-requires-2 : tie.Need-refuse-requires-2 Inv-loop μ-loop
 refuse-requires-2 c κs = search needs
@@ -77,6 +80,7 @@ items-fault-spec =
     (tie.spec
     Inv-loop
     μ-loop
+    starts-of-requires
     loop-holds
     item-at-requires
     code-of-requires

@@ -9,10 +9,13 @@ use Rattle.topology.proofs.items_fault.Statement.{statement}
 use Rattle.topology.proofs.items_fault.Tie as tie
 
 abbrev Inv-loop : tie.InvT-loop
-Inv-loop s comf work m v i₀ i = (i ≤ m) × (wordFault (notedCode comf work m v) s 3 (wordsIn work 0 m) ≡ wordFault (notedCode comf work m v) s (3 + i) (wordsIn work i (m - i)))
+Inv-loop s comf work m v starts i₀ i = (i ≤ m) × (wordFault (notedCode comf work m v) s 3 (wordsIn work 0 m) ≡ wordFault (notedCode comf work m v) s (3 + i) (wordsIn work i (m - i)))
 
 abbrev μ-loop : tie.MeasureT-loop
-μ-loop s comf work m v i₀ i = m - i
+μ-loop s comf work m v starts i₀ i = m - i
+
+starts-of-requires : tie.Need-starts-of-requires Inv-loop μ-loop
+starts-of-requires c κs = (search needs, search needs)
 
 loop-holds : tie.Need-loop-holds Inv-loop μ-loop
 loop-holds c = search (needs, fault-start)
@@ -53,6 +56,7 @@ items-fault-spec =
     (tie.spec
     Inv-loop
     μ-loop
+    starts-of-requires
     loop-holds
     get-requires
     item-code-requires

@@ -28,7 +28,7 @@ records-fault-requires c κs = record {
   framed = (c .before .before .before .before .before .before .before .before .pre .0);
   short =
       (c .before .before .before .before .before .before .before .before .pre .1);
-  twenty = (c .before .before .before .before .before .before .described .ensures .1);
+  all = (c .before .before .before .before .before .before .described .ensures .1);
   wide =
       blank-upto _ (c .before .before .blank .ensures) .0;
   blank = blank-upto _ (c .before .before .blank .ensures) .1;

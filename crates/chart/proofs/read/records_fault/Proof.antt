@@ -32,7 +32,7 @@ loop-holds c = (
 layout-fault-requires : tie.Need-layout-fault-requires Inv-loop μ-loop
 layout-fault-requires c κs = (
   (record-in _ _ (c .before .loop .k) _ (c .before .before .before .before .before .before .pre .framed) (c .loop-test .taken) (c .before .loop .inv .2)),
-  (c .before .before .before .before .before .before .pre .twenty),
+  (c .before .before .before .before .before .before .pre .all),
 )
 
 refuse-requires : tie.Need-refuse-requires Inv-loop μ-loop

@@ -1,57 +1,22 @@
--- Refused at once, or judged to the end; the area is cleared in both.
+-- The area is cleared behind the verdict.
 use Prim.Native.Nat.{ℕ}
 use mathlib.Core.Path.{ap, _∙_}
 use lib.ListN.{replicate}
-use Rattle.judging.proofs.JudgeLaws.{judge-refused, told-count}
 use borrow.Author.Needs.{needs}
 use Rattle.judging.proofs.judge.judge.Statement.{statement}
 use Rattle.judging.proofs.judge.judge.Tie as tie
 
-opened-requires : tie.Need-opened-requires
-opened-requires c κs = search needs
-
-enum-known-front : tie.Need-enum-known-front
-enum-known-front c = search needs
+judged-once-requires : tie.Need-judged-once-requires
+judged-once-requires c κs = search needs
 
 clear-requires : tie.Need-clear-requires
 clear-requires c κs = search needs
-
-enum-known-front-2 : tie.Need-enum-known-front-2
-enum-known-front-2 c = search needs
-
-judged-requires : tie.Need-judged-requires
-judged-requires c κs = told-count 1 _ _ _ (c .before .before .before .before .opened .ensures) (search needs)
-
-clear-requires-2 : tie.Need-clear-requires-2
-clear-requires-2 c κs = search needs
 
 same-length : tie.Need-same-length
 same-length c = search needs
 
 returns : tie.Need-returns
-returns c = (judge-refused _ _ _ _ (c .before .before .before .before .before .before .before .opened .ensures) (search needs), (c .before .before .clear .ensures))
-
-same-length-2 : tie.Need-same-length-2
-same-length-2 c = search needs
-
-returns-2 : tie.Need-returns-2
-returns-2 c = (
-  (c .before .before .before .before .before .before .judged .ensures),
-  (c .before .before .clear2 .ensures)
-      ∙ ap (λ (k : ℕ). replicate k 0) (c .before .before .before .before .before .before .judged .kept .1 .1 .0),
-)
+returns c = (c .before .before .before .before .before .before .judged-once .ensures, (c .before .before .clear .ensures) ∙ ap (λ (k : ℕ). replicate k 0) (c .before .before .before .before .before .before .judged-once .kept .1 .0))
 
 pub judge-spec : {M : Type 1} → statement M
-judge-spec =
-    tie.close
-    (tie.spec
-    opened-requires
-    enum-known-front
-    clear-requires
-    enum-known-front-2
-    judged-requires
-    clear-requires-2
-    same-length
-    returns
-    same-length-2
-    returns-2)
+judge-spec = tie.close (tie.spec judged-once-requires clear-requires same-length returns)

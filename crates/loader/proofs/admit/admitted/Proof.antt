@@ -1,8 +1,7 @@
--- Work first, then the verdict, then the held form. Assumes nothing.
-use Rattle.readboth.proofs.CallLaws.{front-opened}
-use Rattle.judging.proofs.JudgeLaws.{opened-few, opened-work}
+-- Work first, then the verdict and what comes of it.
 use native.Mathlib.Omega.{arith}
-use Rattle.loader.proofs.AdmitLaws.{admitted-ready, admitted-work, work-area, admitted-filed, filed-area, admitted-held}
+use Rattle.judging.proofs.JudgeLaws.{opened-few, opened-work}
+use Rattle.loader.proofs.AdmitLaws.{admitted-work, area-short, settling-opened, admit-along}
 use borrow.Author.Needs.{needs}
 use Rattle.loader.proofs.admit.admitted.Statement.{statement}
 use Rattle.loader.proofs.admit.admitted.Tie as tie
@@ -17,34 +16,22 @@ answered-requires : tie.Need-answered-requires
 answered-requires c κs = search needs
 
 returns : tie.Need-returns
-returns c = (search (needs, admitted-work), search (needs, work-area))
+returns c = (search (needs, admitted-work), search (needs, area-short))
 
 cell-verdict-requires : tie.Need-cell-verdict-requires
 cell-verdict-requires c κs = search (needs, opened-work)
 
-filed-requires : tie.Need-filed-requires
-filed-requires c κs = search needs
+settled-requires : tie.Need-settled-requires
+settled-requires c κs = settling-opened _ (c .before .before .before .before .before .before .before .before .before .before .pre) (search needs) (c .before .before .before .before .cell-verdict .ensures .0) (c .before .before .before .before .cell-verdict .ensures .1)
 
 same-length : tie.Need-same-length
 same-length c = search needs
 
-returns-2 : tie.Need-returns-2
-returns-2 c = (search (needs, admitted-filed), search (needs, filed-area))
-
-held-into-requires : tie.Need-held-into-requires
-held-into-requires c κs = admitted-ready _ _ _ _ (c .before .before .before .before .before .cell-verdict .ensures .0) (search needs)
-    (λ i. omega (arith, c .before .before .before .before .before .before .before .before .before .before .shared-slice-known .given i))
-    (front-opened 1 _ _ (c .before .before .before .before .before .before .before .before .before .before .before .pre)) (search needs)
-    (c .before .before .before .before .before .cell-verdict .ensures .1 (search needs))
-
 same-length-2 : tie.Need-same-length-2
 same-length-2 c = search needs
 
-same-length-3 : tie.Need-same-length-3
-same-length-3 c = search needs
-
-returns-3 : tie.Need-returns-3
-returns-3 c = (search (needs, admitted-held), search needs)
+returns-2 : tie.Need-returns-2
+returns-2 c = admit-along _ _ (c .before .before .before .before .before .before .before .cell-verdict .kept .1 .1 .0) (c .before .before .settled .ensures)
 
 pub admitted-spec : {M : Type 1} → statement M
 admitted-spec =
@@ -55,10 +42,7 @@ admitted-spec =
     answered-requires
     returns
     cell-verdict-requires
-    filed-requires
+    settled-requires
     same-length
-    returns-2
-    held-into-requires
     same-length-2
-    same-length-3
-    returns-3)
+    returns-2)

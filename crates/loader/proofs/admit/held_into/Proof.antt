@@ -31,7 +31,7 @@ returns-3 : tie.Need-returns-3
 returns-3 c = (search (needs, room-answer, plan-fits, plan-total), search (needs, room-area))
 
 put-chart-requires : tie.Need-put-chart-requires
-put-chart-requires c κs = (search (needs, ready-writing), search (needs, plan-room))
+put-chart-requires c κs = (search (needs, ready-writing), search needs, search (needs, plan-room))
 
 answered-requires-4 : tie.Need-answered-requires-4
 answered-requires-4 c κs = search needs
@@ -43,8 +43,8 @@ returns-4 : tie.Need-returns-4
 returns-4 c = (
   search (needs, done-answer, plan-fits, plan-total),
   done-area _ _ _ _ _ _ (c .answered4 .ensures)
-      (plan-put _ _ _ (c .before .before .before .before .before .before .before .before .before .before .before .before .before .pre) _ _ refl
-      (c .before .before .before .before .before .before .before .before .planned .ensures) (c .before .before .before .put-chart .ensures)),
+      (plan-put _ _ _ (c .before .before .before .before .before .before .before .before .before .before .before .before .before .before .pre) _ _ refl
+      (c .before .before .before .before .before .before .before .before .before .planned .ensures .0) (c .before .before .before .put-chart .ensures)),
 )
 
 pub held-into-spec : {M : Type 1} → statement M

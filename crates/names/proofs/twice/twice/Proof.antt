@@ -16,8 +16,8 @@ least-repeat-requires c κs = search needs
 returns : tie.Need-returns
 returns c = search (needs, twice-none)
 
-index-of-requires : tie.Need-index-of-requires
-index-of-requires c κs = (search needs, search (needs, twice-inside))
+record-from-requires : tie.Need-record-from-requires
+record-from-requires c κs = (search needs, search (needs, twice-inside))
 
 returns-2 : tie.Need-returns-2
 returns-2 c = search (needs, twice-is)
@@ -30,5 +30,5 @@ twice-spec =
     sub-least-repeat
     least-repeat-requires
     returns
-    index-of-requires
+    record-from-requires
     returns-2)

@@ -1,5 +1,5 @@
 -- The sizes of the parts are those of the chart's records. Assumes nothing.
-use Rattle.reissue.proofs.PlanLaws.{dsid-in, dspm-in, dsid-framed, plan-told}
+use Rattle.reissue.proofs.PlanLaws.{dsid-in, dspm-in, dsid-framed, plan-told, same-told}
 use borrow.Author.Needs.{needs}
 use Rattle.reissue.proofs.plan.planned.Statement.{statement}
 use Rattle.reissue.proofs.plan.planned.Tie as tie
@@ -47,7 +47,7 @@ within-limits-requires : tie.Need-within-limits-requires
 within-limits-requires c κs = search needs
 
 returns : tie.Need-returns
-returns c = search (needs, plan-told)
+returns c = (search (needs, plan-told), search (needs, same-told))
 
 pub planned-spec : {M : Type 1} → statement M
 planned-spec =

@@ -16,8 +16,8 @@ record-end-requires-2 c κs = search (needs, dsid-framed)
 put-front-requires : tie.Need-put-front-requires
 put-front-requires c κs = (search (needs, dsid-in), search (needs, dspm-in), search (needs, front-room))
 
-put-items-requires : tie.Need-put-items-requires
-put-items-requires c κs = (search needs, search (needs, items-room))
+put-rest-requires : tie.Need-put-rest-requires
+put-rest-requires c κs = (search needs, search needs, search (needs, items-room))
 
 same-length : tie.Need-same-length
 same-length c = search needs
@@ -33,6 +33,6 @@ put-chart-spec =
     record-end-requires
     record-end-requires-2
     put-front-requires
-    put-items-requires
+    put-rest-requires
     same-length
     returns)

@@ -1,37 +1,52 @@
--- A record that stands as in held form has the rows of its own directory and the fields that it has. The bytes that are lent are below 256.
+-- A record whose bytes are those of the held form is copied; any other goes by the general way. The bytes that are lent are below 256.
 use Prim.Native.Nat.{ℕ, _<_}
 use native.Mathlib.Omega.{arith}
 use denote.Ref.{now}
-use borrow.Author.Needs.{needs}
 use Rattle.octets.specs.Number.{byteAt}
-use Rattle.writing.proofs.PlainLaws.{plain-few, plain-ended, plain-least, plain-from, plain-head, plain-room, plain-put}
+use Rattle.writing.proofs.HeldLaws.{held-is, held-least, held-room, held-item}
+use borrow.Author.Needs.{needs}
 use Rattle.writing.proofs.item.put_item.Statement.{statement}
 use Rattle.writing.proofs.item.put_item.Tie as tie
 
-rows-of-requires : tie.Need-rows-of-requires
-rows-of-requires c κs = (search needs, search (needs, plain-few))
+quick-head-requires : tie.Need-quick-head-requires
+quick-head-requires c κs = search needs
 
-put-head-requires : tie.Need-put-head-requires
-put-head-requires c κs =
-    let start = c .before .before .before .before .before .before .before in
-    let small : (i : ℕ) → byteAt (now (start .before .args .s)) i < 256 = λ i. omega (arith, start .shared-slice-known .given i) in
-    (search (needs, plain-few), (omega arith, search (needs, plain-head)))
+held-size-requires : tie.Need-held-size-requires
+held-size-requires c κs = search needs
 
-put-lead-requires : tie.Need-put-lead-requires
-put-lead-requires c κs =
-    let start = c .before .before .before .before .before .before .before .before .before .before .before .before in
+put-any-requires : tie.Need-put-any-requires
+put-any-requires c κs = search needs
+
+same-length : tie.Need-same-length
+same-length c = search needs
+
+returns : tie.Need-returns
+returns c = search needs
+
+put-held-requires : tie.Need-put-held-requires
+put-held-requires c κs =
+    let start = c .before .before .before .before .before in
     let small : (i : ℕ) → byteAt (now (start .before .args .s)) i < 256 = λ i. omega (arith, start .shared-slice-known .given i) in
-    (search (needs, plain-from), search (needs, plain-room))
+    (search needs, (search (needs, held-is), (search needs, (search (needs, held-least), search (needs, held-room)))))
+
+same-length-2 : tie.Need-same-length-2
+same-length-2 c = search needs
 
 returns-2 : tie.Need-returns-2
 returns-2 c =
-    let start = c .before .before .before .before .before .before .before .before .before .before .before .before .before .before .before in
+    let start = c .before .before .before .before .before .before .before .before in
     let small : (i : ℕ) → byteAt (now (start .before .args .s)) i < 256 = λ i. omega (arith, start .shared-slice-known .given i) in
-    search (needs, plain-put)
+    search (needs, held-item)
 
 pub put-item-spec : {M : Type 1} → statement M
 put-item-spec =
     tie.close
-    (tie.spec (λ c κs. search needs) (λ c κs. search needs) (λ c κs. search needs) (λ c. search needs) (λ c. search needs) rows-of-requires
-    (λ c κs. search (needs, plain-ended)) put-head-requires (λ c. search needs) (λ c. search needs) (λ c. search needs) (λ c. search (needs, plain-least))
-    put-lead-requires (λ c. search needs) returns-2)
+    (tie.spec
+    quick-head-requires
+    held-size-requires
+    put-any-requires
+    same-length
+    returns
+    put-held-requires
+    same-length-2
+    returns-2)

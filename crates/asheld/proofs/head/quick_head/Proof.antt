@@ -1,0 +1,65 @@
+-- The numbers of the leader, read one by one.
+use Rattle.iso8211.proofs.DirectoryLaws.{count-is}
+use Rattle.asheld.proofs.SizeLaws.{base-sure}
+use borrow.Author.Needs.{needs}
+use Rattle.asheld.proofs.head.quick_head.Statement.{statement}
+use Rattle.asheld.proofs.head.quick_head.Tie as tie
+
+add-sure-digits : tie.Need-add-sure-digits
+add-sure-digits c = search needs
+
+sure-digits-requires : tie.Need-sure-digits-requires
+sure-digits-requires c κs = search (needs, base-sure)
+
+cast-base : tie.Need-cast-base
+cast-base c = search needs
+
+add-digit-at : tie.Need-add-digit-at
+add-digit-at c = search needs
+
+digit-at-requires : tie.Need-digit-at-requires
+digit-at-requires c κs = search needs
+
+add-digit-at-2 : tie.Need-add-digit-at-2
+add-digit-at-2 c = search needs
+
+digit-at-requires-2 : tie.Need-digit-at-requires-2
+digit-at-requires-2 c κs = search needs
+
+sub-count : tie.Need-sub-count
+sub-count c = search needs
+
+add-count : tie.Need-add-count
+add-count c = search needs
+
+add-count-2 : tie.Need-add-count-2
+add-count-2 c = search needs
+
+div-count : tie.Need-div-count
+div-count c = search needs
+
+returns : tie.Need-returns
+returns c = record {
+  headed = search needs;
+  base = search needs;
+  lengths = search needs;
+  positions = search needs;
+  count = search (needs, count-is);
+}
+
+pub quick-head-spec : {M : Type 1} → statement M
+quick-head-spec =
+    tie.close
+    (tie.spec
+    add-sure-digits
+    sure-digits-requires
+    cast-base
+    add-digit-at
+    digit-at-requires
+    add-digit-at-2
+    digit-at-requires-2
+    sub-count
+    add-count
+    add-count-2
+    div-count
+    returns)

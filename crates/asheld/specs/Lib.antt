@@ -1,0 +1,2 @@
+-- The notions of `asheld`: a record whose bytes are those of the held form.
+pub mod Held

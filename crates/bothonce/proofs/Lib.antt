@@ -1,0 +1,4 @@
+-- The laws of `bothonce`.
+pub mod UpdateLaws
+pub mod RaiseLaws
+pub mod TogetherLaws

@@ -1,0 +1,2 @@
+-- The errors that document 01 has met.
+pub mod ErrorsMet

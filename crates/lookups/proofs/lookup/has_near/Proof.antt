@@ -1,0 +1,20 @@
+-- A guess that holds is the answer; else the halving answers.
+use Rattle.lookups.proofs.LookupLaws.{word-told}
+use borrow.Author.Needs.{needs}
+use Rattle.lookups.proofs.lookup.has_near.Statement.{statement}
+use Rattle.lookups.proofs.lookup.has_near.Tie as tie
+
+is-there-requires : tie.Need-is-there-requires
+is-there-requires c κs = search needs
+
+returns : tie.Need-returns
+returns c = search (needs, word-told)
+
+has-word-requires : tie.Need-has-word-requires
+has-word-requires c κs = search needs
+
+returns-2 : tie.Need-returns-2
+returns-2 c = search needs
+
+pub has-near-spec : {M : Type 1} → statement M
+has-near-spec = tie.close (tie.spec is-there-requires returns has-word-requires returns-2)

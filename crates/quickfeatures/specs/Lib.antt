@@ -1,0 +1,3 @@
+-- The notions of `quickfeatures`.
+pub mod Quick
+pub mod Trod

@@ -1,0 +1,2 @@
+-- The notion of `quickvectors`.
+pub mod Quick

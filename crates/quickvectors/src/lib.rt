@@ -1,0 +1,144 @@
+// Whether a vector has no fault of topology, quickly: the lists lie where `spans` says, their sizes
+// tell the shape, one loop tells whether all coordinates are within their limits, and the nodes of an
+// edge are looked up where they are guessed. It promises one way only: where it says yes, Shape,
+// Pointer and Ring find no fault; where it says no, the rules of `shape`, `pointer` and `ring` decide.
+ghost use Prim.Native.Nat.{_≤_};
+ghost use mathlib.Core.Path.{_≡_};
+ghost use lib.ListN.{length};
+ghost use Rattle.headvalues.specs.Dspm.{mostComf};
+ghost use Rattle.items.specs.Identity.{idAt, rcnmAt};
+ghost use Rattle.items.specs.Item.{itemAt};
+ghost use Rattle.items.specs.Premises.{Identified};
+ghost use Rattle.names.specs.Premises.{Noted};
+ghost use Rattle.spans.specs.Spans.{Reached, SpanIn};
+ghost use Rattle.quickvectors.specs.Quick.{NodeTold, PairedTold, HeldTold, EndsTold, EdgeTold, Quick};
+use coordinates::list_within;
+use iso8211::field::Head;
+use lookups::lookup::Found;
+use lookups::lookup::index_near;
+use lookups::lookup::name_in;
+use octets::number::get1;
+use spans::Span;
+use spans::spans_of;
+use table::sizes;
+use table::tags;
+use vectorshape::vector::end_good;
+use vectorshape::vector::topi_of;
+
+pub mod coordinates;
+
+// Whether a node, isolated where RCNM is 110, has the lists of its class, by their sizes: no pointer,
+// and one pair of eight bytes; or, isolated, soundings of twelve each.
+fn node_shaped(rcnm: u32, ends: Span, pairs: Span, soundings: Span) -> bool
+    requires { ⌜ (pairs .from ≤ pairs .to) × (soundings .from ≤ soundings .to) ⌝ }
+    ensures { λ r. ⌜ NodeTold rcnm ends pairs soundings r ⌝ }
+{
+    if ends.from != ends.to {
+        return false;
+    }
+    let sounded = soundings.to - soundings.from;
+    let paired = pairs.to - pairs.from;
+    if paired == 8 {
+        return sounded == 0;
+    }
+    if paired != 0 {
+        return false;
+    }
+    if rcnm != 110 {
+        return false;
+    }
+    12 <= sounded
+}
+
+// Whether two VRPT name connected nodes, one as the begin and one as the end of an edge.
+fn ends_shaped(a: &[u8], b: &[u8]) -> bool
+    requires { ⌜ (9 ≤ length (now a)) × (9 ≤ length (now b)) ⌝ }
+    ensures { λ r. ⌜ PairedTold (now (a .entry)) (now (b .entry)) r ⌝ }
+{
+    if !end_good(a) {
+        return false;
+    }
+    if !end_good(b) {
+        return false;
+    }
+    topi_of(a) + topi_of(b) == 3
+}
+
+// Whether the node that a VRPT names is there. `start` is where the words of connected nodes may
+// begin.
+fn is_held(e: &[u8], work: &[u8], m: usize, v: usize, start: usize) -> bool
+    requires { ⌜ (9 ≤ length (now e)) × Noted (now work) m v ⌝ }
+    ensures { λ r. ⌜ HeldTold (now (e .entry)) (now (work .entry)) m r ⌝ }
+{
+    let Found::At(_node) = index_near(work, 0, m, name_in(e), m, start) else {
+        return false;
+    };
+    true
+}
+
+// Whether both hold of the two pointers of an edge.
+fn ends_held(a: &[u8], b: &[u8], work: &[u8], m: usize, v: usize, start: usize) -> bool
+    requires { ⌜ (9 ≤ length (now a)) × (9 ≤ length (now b)) × Noted (now work) m v ⌝ }
+    ensures { λ r. ⌜ EndsTold (now (a .entry)) (now (b .entry)) (now (work .entry)) m r ⌝ }
+{
+    if !ends_shaped(a, b) {
+        return false;
+    }
+    if !is_held(a, work, m, v, start) {
+        return false;
+    }
+    is_held(b, work, m, v, start)
+}
+
+// Whether an edge has two pointers, to its begin and to its end, which are there.
+fn edge_shaped(s: &[u8], ends: Span, work: &[u8], m: usize, v: usize, start: usize) -> bool
+    requires { ⌜ SpanIn (now s) ends × Noted (now work) m v ⌝ }
+    ensures { λ r. ⌜ EdgeTold (now (s .entry)) ends (now (work .entry)) m r ⌝ }
+{
+    let from = ends.from;
+    let to = ends.to;
+    if to < from {
+        return false;
+    }
+    if to - from != 18 {
+        return false;
+    }
+    let mid = from + sizes::VRPT;
+    ends_held(&s[from..mid], &s[mid..to], work, m, v, start)
+}
+
+// Whether the vector at `at` has no fault: its identifier field starts at `id`, field 2 at `due`.
+pub fn vector_quick(
+    s: &[u8],
+    at: usize,
+    h: Head,
+    id: usize,
+    due: usize,
+    comf: u32,
+    work: &[u8],
+    m: usize,
+    v: usize,
+    start: usize,
+) -> bool
+    requires { ⌜ Reached (now s) at h 2 due × Identified (now s) at × (id ≡ idAt (now s) at) × (rcnmAt (now s) at ≡ 100 → ⊥) × Noted (now work) m v × (comf ≤ mostComf) ⌝ }
+    ensures { λ r. ⌜ Quick comf (now (work .entry)) m v (itemAt (now (s .entry)) at) r ⌝ }
+{
+    let sp = spans_of(s, at, h, 2, due, tags::VRPT, tags::SG2D, tags::SG3D);
+    let ends = sp.one;
+    let pairs = sp.two;
+    let soundings = sp.three;
+    if !list_within(s, pairs, sizes::SG2D, comf) {
+        return false;
+    }
+    if !list_within(s, soundings, sizes::SG3D, comf) {
+        return false;
+    }
+    let rcnm = get1(s, id);
+    if rcnm != 130 {
+        return node_shaped(rcnm, ends, pairs, soundings);
+    }
+    if soundings.from != soundings.to {
+        return false;
+    }
+    edge_shaped(s, ends, work, m, v, start)
+}

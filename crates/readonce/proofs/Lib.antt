@@ -1,0 +1,5 @@
+-- The laws of `readonce`.
+pub mod GoodLaws
+pub mod ItemLaws
+pub mod PassLaws
+pub mod CellLaws

@@ -1,0 +1,4 @@
+-- The laws of `recordfine`.
+pub mod DigitLaws
+pub mod OpenLaws
+pub mod WalkLaws

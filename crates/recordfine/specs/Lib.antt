@@ -1,0 +1,3 @@
+-- The notions of `recordfine`.
+pub mod Told
+pub mod Premises

@@ -1,0 +1,2 @@
+-- The notion of `spans`.
+pub mod Spans

@@ -1,0 +1,41 @@
+-- By what is known of the record. The bytes that are lent are below 256.
+use Prim.Native.Nat.{ℕ, _<_}
+use native.Mathlib.Omega.{arith}
+use denote.Ref.{now}
+use Rattle.octets.specs.Number.{byteAt}
+use Rattle.writing.proofs.HeldLaws.{known-any, known-held}
+use borrow.Author.Needs.{needs}
+use Rattle.writing.proofs.item.known_size.Statement.{statement}
+use Rattle.writing.proofs.item.known_size.Tie as tie
+
+quick-head-requires : tie.Need-quick-head-requires
+quick-head-requires c κs = search needs
+
+held-size-requires : tie.Need-held-size-requires
+held-size-requires c κs = search needs
+
+size-any-requires : tie.Need-size-any-requires
+size-any-requires c κs = search needs
+
+returns : tie.Need-returns
+returns c = search (needs, known-any)
+
+is-front-requires : tie.Need-is-front-requires
+is-front-requires c κs = search needs
+
+returns-2 : tie.Need-returns-2
+returns-2 c =
+    let start = c .before .before .before .before in
+    let small : (i : ℕ) → byteAt (now (start .before .args .s)) i < 256 = λ i. omega (arith, start .shared-slice-known .given i) in
+    search (needs, known-held)
+
+pub known-size-spec : {M : Type 1} → statement M
+known-size-spec =
+    tie.close
+    (tie.spec
+    quick-head-requires
+    held-size-requires
+    size-any-requires
+    returns
+    is-front-requires
+    returns-2)
