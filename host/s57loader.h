@@ -45,7 +45,7 @@ extern "C" {
    suffices where the thread's function does little else. bench/tests/stack.c makes each call with exactly this much. */
 #define S57_STACK_JUDGE 278528
 #define S57_STACK_ADMIT 278528
-#define S57_STACK_APPLY 942080
+#define S57_STACK_APPLY 675840
 
 /* ---- the answer */
 
