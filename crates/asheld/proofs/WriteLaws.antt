@@ -85,7 +85,8 @@ module _ (s : List ℕ) (at size : ℕ) (laid : LaidOut s at) (held : Held s at 
         let p-low = led .p-low in
         let room = laid .inside .headed .room in
         let sum = rows-room s at laid in
-        let closing : 30 ∷ [] ≡ take 1 (drop (at + base - 1) s) = part-more s (at + base - 1) (at + base) 0 30 (omega (arith, base-low)) (held .closed .closing) (omega (arith, base-low)) in
+        let closing : 30 ∷ [] ≡ take 1 (drop (at + base - 1) s) = part-more s (at + base - 1) (at + base) 0 30 (omega (arith, base-low)) (held .closed .closing)
+        (omega (arith, base-low)) in
         let rows-are = rows-back s small n (lengthDigits s at) (positionDigits s at) (at + 24) (row-sure s at laid) (omega arith) in
         let count : base - 20 ≡ suc (suc (suc (suc (n * w + 1)))) = omega arith in
         rw (rows-are, closing, join s (at + 24) (at + base - 1) (n * w) 1 (omega arith) (omega arith), count)

@@ -44,7 +44,8 @@ pub field-not : {update : Bool} {stage : ℕ} {marks : List ℕ} {prev tag : ℕ
 field-not e = record { told = λ h. absurd (h e) }
 
 -- ---- a field by the general code
-pub field-rare : {update : Bool} {stage : ℕ} {marks : List ℕ} {prev tag : ℕ} {c : List ℕ} {k : ℕ} (a b : Bool) → k ≡ kindOf tag → k ≤ 19 → (k ≡ ATTV → ⊥) → (k ≡ ATTF → ⊥) → (k ≡ NATF → ⊥)
+pub field-rare : {update : Bool} {stage : ℕ} {marks : List ℕ} {prev tag : ℕ} {c : List ℕ} {k : ℕ} (a b : Bool) → k ≡ kindOf tag → k ≤ 19 → (k ≡ ATTV → ⊥) → (k ≡ ATTF → ⊥)
+    → (k ≡ NATF → ⊥)
     → getD marks k 0 ≡ 1 → a ≡ placed update stage prev k → not a ≡ false → PlainTold update k c b → not b ≡ false → PlainField update stage marks prev tag c k
 field-rare {k = k} a b kind few x y z marked is stands told fine = record {
   told = λ h. record {
@@ -165,7 +166,8 @@ pub stop-as : {d : List ℕ} → Ended d → length d - 1 ≡ length (contentIn 
 stop-as e = sym (content-long e)
 
 -- ---- any field: the table stays
-pub field-plain : {update : Bool} {stage : ℕ} {marks : List ℕ} {aall nall prev tag : ℕ} {c : List ℕ} {stamp fresh : ℕ} {t : List ℕ} {r : ℕ} → PlainField update stage marks prev tag c r
+pub field-plain : {update : Bool} {stage : ℕ} {marks : List ℕ} {aall nall prev tag : ℕ} {c : List ℕ} {stamp fresh : ℕ} {t : List ℕ} {r : ℕ}
+    → PlainField update stage marks prev tag c r
     → FieldTold update stage marks aall nall prev tag c stamp fresh t t r
 field-plain f = record {
   told = λ h.

@@ -71,7 +71,8 @@ module _ {marks : List ℕ} {prev k r : ℕ} (e : r ≡ 20) where
 pub single-so : {marks : List ℕ} {n fixed prev behind k : ℕ} → n ≡ fixed → prev ≡ behind → getD marks k 0 ≡ 1 → SingleField n fixed marks prev behind k k
 single-so long after marked = record { is = λ h. refl; long = λ h. long; after = λ h. after; declared = λ h. marked }
 
-pub identifier-so : {c marks : List ℕ} {fixed prev stage most k : ℕ} (fault f : ℕ) → length c ≡ fixed → getD marks k 0 ≡ 1 → prev ≡ 18 → 2 ≤ stage → stage ≤ most → f ≡ fault → f ≡ 0
+pub identifier-so : {c marks : List ℕ} {fixed prev stage most k : ℕ} (fault f : ℕ) → length c ≡ fixed → getD marks k 0 ≡ 1 → prev ≡ 18 → 2 ≤ stage → stage ≤ most
+    → f ≡ fault → f ≡ 0
     → IdentifierField fixed fault c marks prev stage most k k
 identifier-so fault f long marked after low high is none =
     record { is = λ h. refl; long = λ h. long; after = λ h. after; due = λ h. (low, high); declared = λ h. marked; fine = λ h. sym is ∙ none }
@@ -95,7 +96,8 @@ module _ {marks : List ℕ} {prev low k : ℕ} (a : Bool) (told : a ≡ listStan
   pub groups-so : {n fixed : ℕ} (b : Bool) → b ≡ groupsGood fixed n → not b ≡ false → GroupsField n fixed marks prev low k k
   groups-so b is full = record { is = λ h. refl; stands = λ h. told-yes a _ told stands; full = λ h. told-yes b _ is full }
 
-  pub attributes-so : {update high : Bool} {c : List ℕ} {stamp new : ℕ} {before after : List ℕ} (b : Bool) → new ≡ stamp → AttributesTold update high c new before after b → not b ≡ false
+  pub attributes-so : {update high : Bool} {c : List ℕ} {stamp new : ℕ} {before after : List ℕ} (b : Bool) → new ≡ stamp → AttributesTold update high c new before after b
+      → not b ≡ false
       → AttributesField update high c marks prev low k stamp before after k
   attributes-so b same is fine = record { is = λ h. refl; stands = λ h. told-yes a _ told stands; fine = λ h. rw (same, not-false b fine) at is }
 

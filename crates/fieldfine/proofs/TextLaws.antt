@@ -58,7 +58,8 @@ run-step {high} {c} {from} {i} r so more told yes-text =
       ends = λ (led : ℕ).
           let past : led + (i - from) + 1 ≡ led + (i + 1 - from) = omega arith in
           so .ends led
-          ∙ text-on 1 (drop i c) (led + (i - from)) (omega arith) (rw length-drop (omega arith)) (λ (e : unitOf 1 (drop i c) ≡ 31). no-end high (byteAt c i) is (sym (unit-byte c i) ∙ e))
+          ∙ text-on 1 (drop i c) (led + (i - from)) (omega arith) (rw length-drop (omega arith))
+          (λ (e : unitOf 1 (drop i c) ≡ 31). no-end high (byteAt c i) is (sym (unit-byte c i) ∙ e))
           ∙ rw (drop-drop 1 i c, past);
     }
 

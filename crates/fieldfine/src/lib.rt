@@ -131,7 +131,8 @@ fn vector_field(
     fresh: u32,
 ) -> usize
     requires { ⌜ Ended (now d) × (length (now marks) ≡ 20) × (length (now table) ≡ 65536) ⌝ }
-    ensures { λ r. ⌜ ((aall nall : ℕ) → FieldTold update stage (now (marks .entry)) aall nall prev tag (contentIn (now (d .entry))) stamp fresh (now (table .entry)) (now (table .exit)) r) ⌝ }
+    ensures { λ r. ⌜ ((aall nall : ℕ) → FieldTold update stage (now (marks .entry)) aall nall prev tag (contentIn (now (d .entry)))
+        stamp fresh (now (table .entry)) (now (table .exit)) r) ⌝ }
 {
     if tag == tags::ATTV {
         return attributes_field(

@@ -94,7 +94,8 @@ pub fn attributes_field(
     fresh: u32,
 ) -> usize
     requires { ⌜ Ended (now d) × (length (now marks) ≡ 20) × (k ≤ 19) × (length (now table) ≡ 65536) ⌝ }
-    ensures { λ r. ⌜ AttributesField update high (contentIn (now (d .entry))) (now (marks .entry)) prev low k (cond (eqb prev k) stamp fresh) (now (table .entry)) (now (table .exit)) r ⌝ }
+    ensures { λ r. ⌜ AttributesField update high (contentIn (now (d .entry))) (now (marks .entry)) prev low k (cond (eqb prev k) stamp fresh)
+        (now (table .entry)) (now (table .exit)) r ⌝ }
 {
     if !list_stands(marks, prev, low, k) {
         return START;

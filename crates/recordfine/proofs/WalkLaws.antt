@@ -278,7 +278,8 @@ pub fields-not : {update : Bool} {stage : ℕ} {marks : List ℕ} {aall nall : �
 fields-not = record { good = λ e. never e; laid = λ e. never e; valued = λ e. never e }
 
 pub fields-so : {update : Bool} {stage : ℕ} {marks : List ℕ} {aall nall : ℕ} {s : List ℕ} {at : ℕ} {before t : List ℕ} {i prev stamp due : ℕ} {h : Open} (r : Bool)
-    → Passed update stage marks aall nall s at (4 + h .lengths + h .positions) before t i prev stamp due → OpenAt s at h → h .body - 1 ≤ i → due ≡ h .end - h .body → r ≡ mayEnd prev
+    → Passed update stage marks aall nall s at (4 + h .lengths + h .positions) before t i prev stamp due → OpenAt s at h → h .body - 1 ≤ i → due ≡ h .end - h .body
+    → r ≡ mayEnd prev
     → FieldsTold update stage marks aall nall s at before t r
 unfolding inRow
 fields-so {update} {stage} {marks} {aall} {nall} {s} {at} {before} {t} {i} {prev} {stamp} {due} {h} r so o past all told =
@@ -306,7 +307,8 @@ pub second-room : {s : List ℕ} {at : ℕ} {h : Open} → OpenAt s at h → at 
 second-room {s} {at} {h} o = let room = row-within (second-rowed o) in omega arith
 
 -- 0001 has two bytes and its 1E
-second-start : (update : Bool) (stage : ℕ) (marks : List ℕ) {s : List ℕ} {at : ℕ} {h : Open} → OpenAt s at h → recordGood false s at ≡ true → layoutFault update stage marks s at ≡ 0
+second-start : (update : Bool) (stage : ℕ) (marks : List ℕ) {s : List ℕ} {at : ℕ} {h : Open} → OpenAt s at h → recordGood false s at ≡ true
+    → layoutFault update stage marks s at ≡ 0
     → h .body + 3 ≡ fieldAt s at 1 .start
 second-start update stage marks {s} {at} {h} o good none =
     let fits = o .framed .fits in

@@ -53,7 +53,8 @@ fn field_at(
     fresh: u32,
 ) -> usize
     requires { ⌜ (from + long ≤ length (now s)) × (1 ≤ long) × (byteAt (now s) (from + long - 1) ≡ 30) × (length (now marks) ≡ 20) × (length (now table) ≡ 65536) ⌝ }
-    ensures { λ r. ⌜ FieldTold update stage (now (marks .entry)) aall nall prev tag (contentIn (take (from + long - from) (drop from (now (s .entry))))) stamp fresh (now (table .entry)) (now (table .exit)) r ⌝ }
+    ensures { λ r. ⌜ FieldTold update stage (now (marks .entry)) aall nall prev tag (contentIn (take (from + long - from) (drop from (now (s .entry)))))
+        stamp fresh (now (table .entry)) (now (table .exit)) r ⌝ }
 {
     let to = from + long;
     field_fine(

@@ -26,7 +26,8 @@ pub record JudgedFrom (code : Item → ℕ) (cell update work : List ℕ) (end c
   pub able : AllAble cell update (placesFrom work end count edits i j)
   pub left : j ≤ edits
 
-pub judged-start : (code : Item → ℕ) {cell update work : List ℕ} {end count edits : ℕ} → Laid cell update work end count edits → JudgedFrom code cell update work end count edits 0 0
+pub judged-start : (code : Item → ℕ) {cell update work : List ℕ} {end count edits : ℕ} → Laid cell update work end count edits
+    → JudgedFrom code cell update work end count edits 0 0
 judged-start code {cell} {update} {work} {end} {count} {edits} laid = record {
   is = rw (places-start work end count edits);
   able = rw (places-start work end count edits) (laid .able);

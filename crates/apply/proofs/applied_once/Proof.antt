@@ -13,8 +13,10 @@ enum-known-read c = search needs
 
 changed-requires : tie.Need-changed-requires
 changed-requires c κs =
-    once-ready (read-all {n = c .before .before .before .read .given .0 .0} {m = c .before .before .before .read .given .0 .1 .0} _ (c .before .before .before .before .before .before .before .both-once .ensures) (search needs))
-    (λ i. omega (arith, c .before .before .before .before .before .before .before .before .before .before .before .before .shared-slice-known .given i)) (λ i. omega (arith, c .before .before .before .before .before .before .before .before .before .before .before .shared-slice-known2 .given i))
+    once-ready (read-all {n = c .before .before .before .read .given .0 .0} {m = c .before .before .before .read .given .0 .1 .0} _
+    (c .before .before .before .before .before .before .before .both-once .ensures) (search needs))
+    (λ i. omega (arith, c .before .before .before .before .before .before .before .before .before .before .before .before .shared-slice-known .given i))
+    (λ i. omega (arith, c .before .before .before .before .before .before .before .before .before .before .before .shared-slice-known2 .given i))
 
 enum-told : tie.Need-enum-told
 enum-told c = search needs
@@ -30,8 +32,11 @@ same-length-2 c = search needs
 
 returns : tie.Need-returns
 returns c =
-    let so = read-all {n = c .before .before .before .before .before .before .before .before .read .given .0 .0} {m = c .before .before .before .before .before .before .before .before .read .given .0 .1 .0} _ (c .before .before .before .before .before .before .before .before .before .before .before .before .both-once .ensures) (search needs) in
-    once-applied _ _ _ _ so (c .before .before .before .before .before .before .before .before .before .before .before .before .both-once .kept .1 .1 .0) (c .before .before .before .before .changed .ensures)
+    let so = read-all {n = c .before .before .before .before .before .before .before .before .read .given .0 .0}
+    {m = c .before .before .before .before .before .before .before .before .read .given .0 .1 .0} _
+    (c .before .before .before .before .before .before .before .before .before .before .before .before .both-once .ensures) (search needs) in
+    once-applied _ _ _ _ so (c .before .before .before .before .before .before .before .before .before .before .before .before .both-once .kept .1 .1 .0)
+    (c .before .before .before .before .changed .ensures)
 
 same-length-3 : tie.Need-same-length-3
 same-length-3 c = search needs
@@ -40,7 +45,8 @@ same-length-4 : tie.Need-same-length-4
 same-length-4 c = search needs
 
 returns-2 : tie.Need-returns-2
-returns-2 c = apply-along _ _ _ (c .before .before .before .before .before .before .before .before .before .before .before .both-once .kept .1 .1 .0) (c .before .before .before .before .applied-again .ensures)
+returns-2 c = apply-along _ _ _ (c .before .before .before .before .before .before .before .before .before .before .before .both-once .kept .1 .1 .0)
+    (c .before .before .before .before .applied-again .ensures)
 
 pub applied-once-spec : {M : Type 1} → statement M
 applied-once-spec =

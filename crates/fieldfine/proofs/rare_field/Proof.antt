@@ -38,7 +38,11 @@ returns-6 : tie.Need-returns-6
 returns-6 c = field-not refl
 
 returns-7 : tie.Need-returns-7
-returns-7 c = field-rare _ _ (c .before .before .before .before .before .before .before .before .before .kind-of .ensures .0) (let b = c .before .before .before .before .before .before .before .before .before .kind-of .ensures .1 in omega arith) (c .before .before .before .before .before .before .before .before .if1 .left) (c .before .before .before .before .before .before .before .if2 .left) (c .before .before .before .before .before .before .if3 .left) (c .before .before .before .before .if4 .left) (c .before .before .before .placed .ensures) (c .before .before .if5 .left) (c .before .rare-fine .ensures) (c .if6 .left)
+returns-7 c = field-rare _ _ (c .before .before .before .before .before .before .before .before .before .kind-of .ensures .0)
+    (let b = c .before .before .before .before .before .before .before .before .before .kind-of .ensures .1 in omega arith)
+    (c .before .before .before .before .before .before .before .before .if1 .left) (c .before .before .before .before .before .before .before .if2 .left)
+    (c .before .before .before .before .before .before .if3 .left) (c .before .before .before .before .if4 .left) (c .before .before .before .placed .ensures)
+    (c .before .before .if5 .left) (c .before .rare-fine .ensures) (c .if6 .left)
 
 pub rare-field-spec : {M : Type 1} → statement M
 rare-field-spec =

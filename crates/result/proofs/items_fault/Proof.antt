@@ -11,7 +11,8 @@ use Rattle.result.proofs.items_fault.Tie as tie
 
 abbrev Inv-loop : tie.InvT-loop
 Inv-loop cell update comf work end count edits v join₀ table₀ room₀ starts i₀ j₀ join table room i j =
-    (i ≤ count) × (count + edits ≤ 2305843009213693952) × JudgedFrom (notedCode comf work count v) cell update work end count edits i j × Rooms join table room × (length join ≡ length join₀)
+    (i ≤ count) × (count + edits ≤ 2305843009213693952) × JudgedFrom (notedCode comf work count v) cell update work end count edits i j × Rooms join table room ×
+    (length join ≡ length join₀)
     × (length table ≡ length table₀) × (length room ≡ length room₀)
 
 abbrev μ-loop : tie.MeasureT-loop

@@ -9,7 +9,8 @@ use Rattle.topology.proofs.items_fault.Statement.{statement}
 use Rattle.topology.proofs.items_fault.Tie as tie
 
 abbrev Inv-loop : tie.InvT-loop
-Inv-loop s comf work m v starts i₀ i = (i ≤ m) × (wordFault (notedCode comf work m v) s 3 (wordsIn work 0 m) ≡ wordFault (notedCode comf work m v) s (3 + i) (wordsIn work i (m - i)))
+Inv-loop s comf work m v starts i₀ i = (i ≤ m) × (wordFault (notedCode comf work m v) s 3 (wordsIn work 0 m) ≡ wordFault (notedCode comf work m v) s (3 + i)
+    (wordsIn work i (m - i)))
 
 abbrev μ-loop : tie.MeasureT-loop
 μ-loop s comf work m v starts i₀ i = m - i

@@ -24,8 +24,11 @@ same-length c = search needs
 
 returns : tie.Need-returns
 returns c =
-    let call = c .before .before .update-once in
-    (placed-told _ _ _ (c .before .before .before .before .before .before .pre) (call .kept .1 .0) (call .ensures), placed-front _ (call .last .1 .0) _ (c .before .before .before .before .before .before .pre) (call .kept .1 .0))
+    let call = c .before .before .update-once in (
+      placed-told _ _ _ (c .before .before .before .before .before .before .pre) (call .kept .1 .0) (call .ensures),
+      placed-front _ (call .last .1 .0) _
+          (c .before .before .before .before .before .before .pre) (call .kept .1 .0),
+    )
 
 pub update-from-spec : {M : Type 1} → statement M
 update-from-spec =

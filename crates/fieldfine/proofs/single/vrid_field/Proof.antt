@@ -27,7 +27,8 @@ returns-5 : tie.Need-returns-5
 returns-5 c = search needs
 
 returns-6 : tie.Need-returns-6
-returns-6 c = identifier-fine _ (c .before .before .before .before .before .before .if1 .left) (c .before .before .before .before .if2 .left) (c .before .before .before .if3 .left) (c .before .before .if4 .left) (omega arith) (c .before .vrid-good .ensures) (c .if5 .left)
+returns-6 c = identifier-fine _ (c .before .before .before .before .before .before .if1 .left) (c .before .before .before .before .if2 .left)
+    (c .before .before .before .if3 .left) (c .before .before .if4 .left) (omega arith) (c .before .vrid-good .ensures) (c .if5 .left)
 
 pub vrid-field-spec : {M : Type 1} → statement M
 vrid-field-spec =

@@ -11,7 +11,8 @@ use Rattle.fieldfine.proofs.text.attributes_fine.Statement.{statement}
 use Rattle.fieldfine.proofs.text.attributes_fine.Tie as tie
 
 abbrev Inv-loop : tie.InvT-loop
-Inv-loop d update high table₀ stamp stop at₀ table at = (at ≤ stop) × (length table ≡ length table₀) × (length table ≡ 65536) × Attributing update high (contentIn d) stamp table₀ table at
+Inv-loop d update high table₀ stamp stop at₀ table at = (at ≤ stop) × (length table ≡ length table₀) × (length table ≡ 65536) × Attributing update high
+    (contentIn d) stamp table₀ table at
 
 abbrev μ-loop : tie.MeasureT-loop
 μ-loop d update high table₀ stamp stop at₀ table at = stop - at
@@ -32,7 +33,8 @@ returns : tie.Need-returns Inv-loop μ-loop
 returns c = attributes-no
 
 get2-requires : tie.Need-get2-requires Inv-loop μ-loop
-get2-requires c κs = let f = attribute-fits _ (c .before .before .before .before .before .before .pre .0) (c .before .attribute-len .ensures) (c .if1 .left) in let s = attribute-some _ (c .before .attribute-len .ensures) (c .if1 .left) in omega arith
+get2-requires c κs = let f = attribute-fits _ (c .before .before .before .before .before .before .pre .0) (c .before .attribute-len .ensures) (c .if1 .left) in
+    let s = attribute-some _ (c .before .attribute-len .ensures) (c .if1 .left) in omega arith
 
 cast-label : tie.Need-cast-label Inv-loop μ-loop
 cast-label c = search needs
@@ -56,7 +58,8 @@ slice-write-table : tie.Need-slice-write-table Inv-loop μ-loop
 slice-write-table c = search needs
 
 add-at : tie.Need-add-at Inv-loop μ-loop
-add-at c = let f = attribute-fits _ (c .before .before .before .before .before .before .before .before .before .pre .0) (c .before .before .before .before .attribute-len .ensures) (c .before .before .before .if1 .left) in omega arith
+add-at c = let f = attribute-fits _ (c .before .before .before .before .before .before .before .before .before .pre .0)
+    (c .before .before .before .before .attribute-len .ensures) (c .before .before .before .if1 .left) in omega arith
 
 loop-less : tie.Need-loop-less Inv-loop μ-loop
 loop-less c = search needs

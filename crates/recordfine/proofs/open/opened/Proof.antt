@@ -51,7 +51,10 @@ add-t10 : tie.Need-add-t10
 add-t10 c = search needs
 
 returns-3 : tie.Need-returns-3
-returns-3 c = opened-so _ _ _ _ _ _ _ _ (c .before .before .before .before .before .before .before .leader-good .ensures) (c .before .before .before .before .before .before .if1 .left) (c .before .before .before .before .before .five-digits .ensures) (c .before .before .before .before .five-digits2 .ensures) (c .before .before .before .digit-at .ensures .0) (c .before .before .before .digit-at .ensures .1) (c .before .before .digit-at2 .ensures .0) (c .before .before .digit-at2 .ensures .1) (c .before .head-good .ensures) (c .if2 .left)
+returns-3 c = opened-so _ _ _ _ _ _ _ _ (c .before .before .before .before .before .before .before .leader-good .ensures)
+    (c .before .before .before .before .before .before .if1 .left) (c .before .before .before .before .before .five-digits .ensures)
+    (c .before .before .before .before .five-digits2 .ensures) (c .before .before .before .digit-at .ensures .0) (c .before .before .before .digit-at .ensures .1)
+    (c .before .before .digit-at2 .ensures .0) (c .before .before .digit-at2 .ensures .1) (c .before .head-good .ensures) (c .if2 .left)
 
 pub opened-spec : {M : Type 1} → statement M
 opened-spec =
