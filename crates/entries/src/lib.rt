@@ -52,14 +52,6 @@ fn led_text_len(b: &[u8], at: usize, from: usize, unit: usize) -> usize
     0
 }
 
-// The length of the text at `at`, its terminator counted; 0 where no terminator comes.
-pub fn text_len(b: &[u8], at: usize, unit: usize) -> usize
-    requires { ⌜ (at ≤ length (now b)) × (1 ≤ unit) × (unit ≤ 2) ⌝ }
-    ensures { λ r. ⌜ (r ≡ textLen unit (drop at (now (b .entry))) 0) × (at + r ≤ length (now (b .entry))) ⌝ }
-{
-    led_text_len(b, at, at, unit)
-}
-
 // The length of the entry at `at`; 0 where no whole entry stands there. A walk over a list goes by
 // this one, so that no part is lent on the way.
 pub fn entry_len_at(b: &[u8], at: usize, sh: Shape) -> usize

@@ -203,7 +203,8 @@ kinds-list (j ∷ ks) k all h =
     ⊎-elim (λ (e : eqb j k ≡ true). rw (eqb-true j k e) at (p .0)) (λ (e : isIn k ks ≡ true). kinds-list ks k (p .1) e) (or-cases _ _ h)
 
 -- lists of some kinds alone, read back from the fields that they were written to
-all-back : {prev aall nall : ℕ} {ks kinds : List ℕ} (ls : ℕ → List (List ℕ)) (s : List ℕ) (at : ℕ) (fs : List Piece) → piecesAt s at ≡ fs → Chain prev ks → Lists false aall nall kinds ls
+all-back : {prev aall nall : ℕ} {ks kinds : List ℕ} (ls : ℕ → List (List ℕ)) (s : List ℕ) (at : ℕ) (fs : List Piece) → piecesAt s at ≡ fs → Chain prev ks
+    → Lists false aall nall kinds ls
     → allOf (λ j. rowOf j .list) kinds ≡ true → ((k : ℕ) → isIn k ks ≡ false → ls k ≡ []) → ((k : ℕ) → rowOf k .list ≡ true → listIn k fs ≡ listIn k (listPieces ks ls))
     → (k : ℕ) → listOf s at k ≡ ls k
 unfolding listOf entriesAt flatten

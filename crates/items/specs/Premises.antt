@@ -13,6 +13,10 @@ use Rattle.layout.specs.Layout.{filled}
 use Rattle.layout.specs.Record.{kindAt, contentAt}
 use Rattle.items.specs.Identity.{idAt, rcnmAt}
 
+-- every name is below this: four ranks, each of as many RCIDs as four bytes can say
+abbrev pub nameBound : ℕ
+nameBound = 17179869184
+
 -- a record that is laid out: its fields lie in the file and "follow without gaps", and each is filled by its subfields
 pub record LaidOut (s : List ℕ) (at : ℕ) : Type 0 where
   pub inside : FieldsIn s at

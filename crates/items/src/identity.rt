@@ -12,7 +12,7 @@ use octets::number::get2;
 use octets::number::get4;
 use octets::number::get8;
 use table::offsets;
-ghost use Rattle.items.specs.Premises.{LaidOut, Identified, Featured};
+ghost use Rattle.items.specs.Premises.{LaidOut, Identified, Featured, nameBound};
 
 // Where the identifier field starts.
 fn id_at(s: &[u8], at: usize, h: Head) -> usize
@@ -107,7 +107,7 @@ pub fn rank_of(rcnm: u32) -> u64
 // The name as a number.
 pub fn name_of(s: &[u8], at: usize, h: Head) -> u64
     requires { ⌜ LaidOut (now s) at × HeadOf (now s) at h × Identified (now s) at ⌝ }
-    ensures { λ r. ⌜ (r ≡ nameAt (now (s .entry)) at) × (r < 17179869184) ⌝ }
+    ensures { λ r. ⌜ (r ≡ nameAt (now (s .entry)) at) × (r < nameBound) ⌝ }
 {
     let rank = rank_of(rcnm_of(s, at, h));
     let rcid = rcid_of(s, at, h) as u64;

@@ -5,6 +5,7 @@ ghost use lib.ListN.{length};
 ghost use Rattle.octets.specs.Lists.{isIn};
 ghost use Rattle.words.specs.Words.{wordsIn};
 ghost use Rattle.words.specs.Order.{Sorted};
+ghost use Rattle.items.specs.Premises.{nameBound};
 ghost use Rattle.lookups.specs.Lookup.{nameIn};
 ghost use Rattle.lookups.specs.LookupWords.{lookup, indexOf, FirstTold, WordTold};
 use items::identity::rank_of;
@@ -18,7 +19,7 @@ use words::get;
 // The name that an entry of VRPT or FSPT starts with.
 pub fn name_in(e: &[u8]) -> u64
     requires { ⌜ 5 ≤ length (now e) ⌝ }
-    ensures { λ r. ⌜ (r ≡ nameIn (now (e .entry))) × (r < 17179869184) ⌝ }
+    ensures { λ r. ⌜ (r ≡ nameIn (now (e .entry))) × (r < nameBound) ⌝ }
 {
     let rank = rank_of(get1(e, 0));
     let rcid = get4(e, offsets::RCID) as u64;
@@ -35,7 +36,7 @@ pub enum Found {
 // stand behind all smaller names, so the first word that is not below the name's least has it, or
 // none has.
 pub fn index_of(area: &[u8], from: usize, m: usize, name: u64) -> Found
-    requires { ⌜ (8 * (from + m) ≤ length (now area)) × Sorted (wordsIn (now area) from m) × (name < 17179869184) ⌝ }
+    requires { ⌜ (8 * (from + m) ≤ length (now area)) × Sorted (wordsIn (now area) from m) × (name < nameBound) ⌝ }
     ensures { λ r. ⌜ r ≡ indexOf (wordsIn (now (area .entry)) from m) name ⌝ }
 {
     let p = find(area, from, m, name * word::NAME_WEIGHT);
@@ -72,7 +73,7 @@ fn is_first(area: &[u8], from: usize, m: usize, name: u64, near: usize) -> bool
 // Where the name stands if every name from that of the word at index `start` on is there: a guess,
 // which promises nothing.
 fn guess(area: &[u8], from: usize, m: usize, name: u64, start: usize) -> usize
-    requires { ⌜ (8 * (from + m) ≤ length (now area)) × (name < 17179869184) ⌝ }
+    requires { ⌜ (8 * (from + m) ≤ length (now area)) × (name < nameBound) ⌝ }
 {
     if m <= start {
         return 0;
@@ -87,7 +88,7 @@ fn guess(area: &[u8], from: usize, m: usize, name: u64, start: usize) -> usize
 // The same as `index_of`. Before it halves it tries the index `near`, then the one that the name
 // would have among names without gaps from index `start` on; both may be any numbers.
 pub fn index_near(area: &[u8], from: usize, m: usize, name: u64, near: usize, start: usize) -> Found
-    requires { ⌜ (8 * (from + m) ≤ length (now area)) × Sorted (wordsIn (now area) from m) × (name < 17179869184) ⌝ }
+    requires { ⌜ (8 * (from + m) ≤ length (now area)) × Sorted (wordsIn (now area) from m) × (name < nameBound) ⌝ }
     ensures { λ r. ⌜ r ≡ indexOf (wordsIn (now (area .entry)) from m) name ⌝ }
 {
     if is_first(area, from, m, name, near) {
@@ -102,7 +103,7 @@ pub fn index_near(area: &[u8], from: usize, m: usize, name: u64, near: usize, st
 
 // The place of the record that has this name, by the m words from word `from` on.
 pub fn lookup(area: &[u8], from: usize, m: usize, name: u64) -> Found
-    requires { ⌜ (8 * (from + m) ≤ length (now area)) × Sorted (wordsIn (now area) from m) × (name < 17179869184) ⌝ }
+    requires { ⌜ (8 * (from + m) ≤ length (now area)) × Sorted (wordsIn (now area) from m) × (name < nameBound) ⌝ }
     ensures { λ r. ⌜ r ≡ lookup (wordsIn (now (area .entry)) from m) name ⌝ }
 {
     let Found::At(i) = index_of(area, from, m, name) else {

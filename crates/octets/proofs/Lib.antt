@@ -4,4 +4,5 @@ pub mod Tests
 pub mod NumberLaws
 pub mod AreaLaws
 pub mod DigitsLaws
+pub mod WidthLaws
 pub mod ListLaws

@@ -3,4 +3,5 @@ pub mod Number
 pub mod Digits
 pub mod Lists
 pub mod Premises
+pub mod Told
 pub mod Area

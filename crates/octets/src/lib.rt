@@ -4,6 +4,7 @@
 pub mod area;
 pub mod digits;
 pub mod number;
+pub mod widths;
 
 // Every byte of the area becomes 0.
 pub use area::clear;
@@ -13,6 +14,9 @@ pub use area::copy;
 
 // The decimal number in the n bytes from `at` on, or NONE where one of them is no digit.
 pub use digits::get_digits;
+
+// The number in the five digits from i on; above 99,999 where there is none.
+pub use widths::five_digits;
 
 // The number v in w digits, with leading zeros, from `at` on; the answer is where they end.
 pub use digits::put_digits;

@@ -1,4 +1,3 @@
 -- The laws of `recordfine`.
-pub mod DigitLaws
 pub mod OpenLaws
 pub mod WalkLaws

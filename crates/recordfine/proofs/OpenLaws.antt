@@ -17,7 +17,8 @@ use Rattle.iso8211.specs.Field.{countAt, directoryAt}
 use Rattle.iso8211.specs.Premises.{FramedAt}
 use Rattle.iso8211.proofs.RecordLaws.{led}
 use Rattle.recordfine.specs.declared.open.Open.{Open}
-use Rattle.recordfine.specs.Premises.{FiveTold, headGood, OpenAt, Opened}
+use Rattle.octets.specs.Told.{FiveTold}
+use Rattle.recordfine.specs.Premises.{headGood, OpenAt, Opened}
 
 pub opened-not : {s : List ℕ} {at : ℕ} (h : Open) → h .end ≡ 0 → Opened s at h
 opened-not h e = record { told = λ (some : h .end ≡ 0 → ⊥). absurd (some e) }

@@ -36,7 +36,8 @@ use Rattle.fieldfine.specs.Text.{Ended}
 use Rattle.fieldfine.specs.Place.{FieldTold}
 use Rattle.recordfine.specs.declared.open.Open.{Open}
 use Rattle.recordfine.specs.declared.Fine.{Fine}
-use Rattle.recordfine.specs.Premises.{NumberTold, OpenAt, RowGood, RowTold, FieldsTold, IdentifiedBy}
+use Rattle.octets.specs.Premises.{Number}
+use Rattle.recordfine.specs.Premises.{OpenAt, RowGood, RowTold, FieldsTold, IdentifiedBy}
 use Rattle.recordfine.specs.Told.{FineTold}
 
 never : {A : Type 0} → false ≡ true → A
@@ -46,10 +47,10 @@ never e = absurd (let z : _≡_ {A = ℕ} 0 1 = cc in omega arith)
 pub row-not : {s : List ℕ} {i l p body size due long : ℕ} → long ≡ 0 → RowTold s i l p body size due long
 row-not e = record { told = λ some. absurd (some e) }
 
-pub row-so : {s : List ℕ} {i l p body size due long place : ℕ} → NumberTold s (i + 4) l long → NumberTold s (i + 4 + l) p place → size ≤ 99999
+pub row-so : {s : List ℕ} {i l p body size due long place : ℕ} → Number s (i + 4) l long → Number s (i + 4 + l) p place → size ≤ 99999
     → place ≡ due → 1 ≤ long → due + long ≤ size → byteAt s (body + (due + long) - 1) ≡ 30 → RowTold s i l p body size due long
 row-so n m small at some within ends =
-    record { told = λ any. record { is = n .told (omega arith); place = sym (m .told (omega arith)) ∙ at; some = some; within = within; ends = ends } }
+    record { told = λ any. record { is = n .is; place = sym (m .is) ∙ at; some = some; within = within; ends = ends } }
 
 pub row-within-so : {s : List ℕ} {i l p body size due long : ℕ} → RowTold s i l p body size due long → (long ≡ 0 → ⊥) → due + long ≤ size
 row-within-so told some = told .told some .within

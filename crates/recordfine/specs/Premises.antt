@@ -6,7 +6,7 @@ use mathlib.Core.Path.{_≡_}
 use lib.ListN.{length}
 use lib.Dec.{leb, eqb}
 use Rattle.octets.specs.Number.{byteAt}
-use Rattle.octets.specs.Digits.{none, numberAt}
+use Rattle.octets.specs.Digits.{numberAt}
 use Rattle.iso8211.specs.Leader.{sizeAt, baseAt, lengthDigits, positionDigits}
 use Rattle.iso8211.specs.Directory.{rowWidth}
 use Rattle.iso8211.specs.Record.{recordGood, inRow, endOf}
@@ -17,26 +17,6 @@ use Rattle.layout.specs.Record.{kindAt}
 use Rattle.fieldvalue.specs.Judged.{RecordJudged}
 use Rattle.recordfine.specs.declared.open.Open.{Open}
 use Rattle.recordfine.specs.declared.Fine.{Fine}
-
--- r is what the digit at i stands for, or above 9
-pub record DigitTold (s : List ℕ) (i r : ℕ) : Type 0 where
-  pub told : r ≤ 9 → byteAt s i ≡ 48 + r
-
--- r is the number in the n digits from i on, or none
-pub record NumberTold (s : List ℕ) (i n r : ℕ) : Type 0 where
-  pub told : r < none → r ≡ numberAt s i n
-  pub most : r ≤ none
-
--- the same of five digits, above what they can say where there is none
-pub record FiveTold (s : List ℕ) (i r : ℕ) : Type 0 where
-  pub told : r ≤ 99999 → r ≡ numberAt s i 5
-  pub most : r ≤ 1001000000000
-
--- two numbers joined, or none
-pub record JoinedTold (led last scale r : ℕ) : Type 0 where
-  pub small : r < none → (led ≤ 99) × (last ≤ 999)
-  pub is : r < none → r ≡ led * scale + last
-  pub most : r ≤ none
 
 -- what is asked of a record before its fields, from the numbers of its leader: all of `bodyGood` but its fields, and a second field
 unfoldable pub headGood : List ℕ → ℕ → ℕ → ℕ → ℕ → ℕ → Bool

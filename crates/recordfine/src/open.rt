@@ -3,9 +3,9 @@ ghost use Prim.Native.Nat.{_+_, _≤_};
 ghost use mathlib.Core.Path.{_≡_};
 ghost use lib.ListN.{length};
 ghost use Rattle.recordfine.specs.Premises.{headGood, Opened};
-use crate::digits::five_digits;
 use iso8211::leader::leader_good;
 use iso8211::record::digit_at;
+use octets::widths::five_digits;
 
 // Of a record whose leader is good: where it ends (0: it isn't good), where its fields start, and the two
 // digit sizes of its directory.

@@ -5,6 +5,7 @@ ghost use lib.ListN.{length};
 ghost use Rattle.words.specs.Words.{wordsIn};
 ghost use Rattle.words.specs.Order.{Sorted};
 ghost use Rattle.items.specs.Identity.{nameFrom};
+ghost use Rattle.items.specs.Premises.{nameBound};
 ghost use Rattle.shownames.specs.Premises.{isClass, placeNamed};
 use items::identity::rank_of;
 use items::word;
@@ -30,7 +31,7 @@ fn is_class(rcnm: u32) -> bool
 
 // A name as a number.
 fn name_from(rcnm: u32, rcid: u32) -> u64
-    ensures { λ r. ⌜ (r ≡ nameFrom rcnm rcid) × (r < 17179869184) ⌝ }
+    ensures { λ r. ⌜ (r ≡ nameFrom rcnm rcid) × (r < nameBound) ⌝ }
 {
     rank_of(rcnm) * word::CLASS_WEIGHT + rcid as u64
 }

@@ -74,7 +74,8 @@ rowsHold k (x ∷ xs) = sameKind (unpacked x) (kindRow k) && rowsHold (suc k) xs
 rows-from : (xs : List ℕ) (j k : ℕ) → rowsHold j xs ≡ true → k < length xs → unpacked (getD xs k 0) ≡ kindRow (j + k)
 unfolding rowsHold
 rows-from [] j k all h = absurd (omega arith)
-rows-from (x ∷ xs) j zero all h = kind-told (unpacked x) (kindRow j) (both (sameKind (unpacked x) (kindRow j)) (rowsHold (suc j) xs) all .0) ∙ ap (λ (n : ℕ). kindRow n) (sym (add-zero j))
+rows-from (x ∷ xs) j zero all h =
+    kind-told (unpacked x) (kindRow j) (both (sameKind (unpacked x) (kindRow j)) (rowsHold (suc j) xs) all .0) ∙ ap (λ (n : ℕ). kindRow n) (sym (add-zero j))
 rows-from (x ∷ xs) j (suc k) all h =
     let on = rows-from xs (suc j) k (both (sameKind (unpacked x) (kindRow j)) (rowsHold (suc j) xs) all .1) (omega arith) in
     let e : suc j + k ≡ j + suc k = omega arith in

@@ -4,23 +4,23 @@ use borrow.Author.Needs.{needs}
 use Rattle.recordfine.proofs.row.row_fine.Statement.{statement}
 use Rattle.recordfine.proofs.row.row_fine.Tie as tie
 
-add-number-at : tie.Need-add-number-at
-add-number-at c = search needs
+add-get-digits : tie.Need-add-get-digits
+add-get-digits c = search needs
 
-number-at-requires : tie.Need-number-at-requires
-number-at-requires c κs = search needs
+get-digits-requires : tie.Need-get-digits-requires
+get-digits-requires c κs = search needs
 
 cast-long : tie.Need-cast-long
 cast-long c = search needs
 
-add-number-at-2 : tie.Need-add-number-at-2
-add-number-at-2 c = search needs
+add-get-digits-2 : tie.Need-add-get-digits-2
+add-get-digits-2 c = search needs
 
-add-number-at-3 : tie.Need-add-number-at-3
-add-number-at-3 c = search needs
+add-get-digits-3 : tie.Need-add-get-digits-3
+add-get-digits-3 c = search needs
 
-number-at-requires-2 : tie.Need-number-at-requires-2
-number-at-requires-2 c κs = search needs
+get-digits-requires-2 : tie.Need-get-digits-requires-2
+get-digits-requires-2 c κs = search needs
 
 cast-position : tie.Need-cast-position
 cast-position c = search needs
@@ -59,12 +59,12 @@ pub row-fine-spec : {M : Type 1} → statement M
 row-fine-spec =
     tie.close
     (tie.spec
-    add-number-at
-    number-at-requires
+    add-get-digits
+    get-digits-requires
     cast-long
-    add-number-at-2
-    add-number-at-3
-    number-at-requires-2
+    add-get-digits-2
+    add-get-digits-3
+    get-digits-requires-2
     cast-position
     returns
     returns-2

@@ -1,11 +1,10 @@
-// Numbers in decimal digits, told one way: NONE where no number stands there, and nothing is promised.
-// The widths that ordinary leaders and rows have are read without a loop.
+// Decimal digits in the widths that leaders and directories mostly have, read without a loop. Told one
+// way: where the answer is NONE, nothing is promised.
 ghost use Prim.Native.Nat.{_+_, _≤_};
 ghost use lib.ListN.{length};
-ghost use Rattle.recordfine.specs.Premises.{DigitTold, NumberTold, FiveTold, JoinedTold};
-use octets::digits::NONE;
-use octets::digits::get_digits;
-use octets::number::wide;
+ghost use Rattle.octets.specs.Told.{DigitTold, NumberTold, FiveTold, JoinedTold};
+use crate::digits::NONE;
+use crate::number::wide;
 use std::num::wrapping_sub_u32;
 
 // What the digit at i stands for; above 9 where there is none.
@@ -76,10 +75,10 @@ fn other_digits(s: &[u8], i: usize, n: usize) -> u32
     if n == 5 {
         return joined(two_digits(s, i), three_digits(s, i + 2), 1000);
     }
-    get_digits(s, i, n)
+    NONE
 }
 
-// The number in the n digits from i on.
+// The number in the n digits from i on; NONE also in other widths than 2 to 5.
 pub fn number_at(s: &[u8], i: usize, n: usize) -> u32
     requires { ⌜ (n ≤ 9) × (i + n ≤ length (now s)) ⌝ }
     ensures { λ r. ⌜ NumberTold (now (s .entry)) i n r ⌝ }

@@ -1,8 +1,8 @@
 -- The width is the number tested for.
-use Rattle.recordfine.proofs.DigitLaws.{four-join, five-join}
+use Rattle.octets.proofs.WidthLaws.{four-join, five-join}
 use borrow.Author.Needs.{needs}
-use Rattle.recordfine.proofs.digits.other_digits.Statement.{statement}
-use Rattle.recordfine.proofs.digits.other_digits.Tie as tie
+use Rattle.octets.proofs.widths.other_digits.Statement.{statement}
+use Rattle.octets.proofs.widths.other_digits.Tie as tie
 
 two-digits-requires : tie.Need-two-digits-requires
 two-digits-requires c κs = search needs
@@ -34,9 +34,6 @@ joined-requires-2 c κs = search needs
 returns-2 : tie.Need-returns-2
 returns-2 c = search (needs, five-join)
 
-get-digits-requires : tie.Need-get-digits-requires
-get-digits-requires c κs = search needs
-
 returns-3 : tie.Need-returns-3
 returns-3 c = search needs
 
@@ -54,5 +51,4 @@ other-digits-spec =
     three-digits-requires
     joined-requires-2
     returns-2
-    get-digits-requires
     returns-3)

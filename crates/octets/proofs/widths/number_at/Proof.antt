@@ -1,8 +1,8 @@
 -- The width is the number tested for.
-use Rattle.recordfine.proofs.DigitLaws.{number-as}
+use Rattle.octets.proofs.WidthLaws.{number-as}
 use borrow.Author.Needs.{needs}
-use Rattle.recordfine.proofs.digits.number_at.Statement.{statement}
-use Rattle.recordfine.proofs.digits.number_at.Tie as tie
+use Rattle.octets.proofs.widths.number_at.Statement.{statement}
+use Rattle.octets.proofs.widths.number_at.Tie as tie
 
 two-digits-requires : tie.Need-two-digits-requires
 two-digits-requires c κs = search needs

@@ -1,8 +1,8 @@
 -- Two digits and three.
-use Rattle.recordfine.proofs.DigitLaws.{five-so}
+use Rattle.octets.proofs.WidthLaws.{five-so}
 use borrow.Author.Needs.{needs}
-use Rattle.recordfine.proofs.digits.five_digits.Statement.{statement}
-use Rattle.recordfine.proofs.digits.five_digits.Tie as tie
+use Rattle.octets.proofs.widths.five_digits.Statement.{statement}
+use Rattle.octets.proofs.widths.five_digits.Tie as tie
 
 two-digits-requires : tie.Need-two-digits-requires
 two-digits-requires c κs = search needs

@@ -1,9 +1,9 @@
 -- Both are small, or there is no number.
 use native.Mathlib.Omega.{arith}
-use Rattle.recordfine.proofs.DigitLaws.{product-most, joined-so}
+use Rattle.octets.proofs.WidthLaws.{product-most, joined-so}
 use borrow.Author.Needs.{needs}
-use Rattle.recordfine.proofs.digits.joined.Statement.{statement}
-use Rattle.recordfine.proofs.digits.joined.Tie as tie
+use Rattle.octets.proofs.widths.joined.Statement.{statement}
+use Rattle.octets.proofs.widths.joined.Tie as tie
 
 returns : tie.Need-returns
 returns c = search needs

@@ -1,9 +1,9 @@
 -- Each is a digit, or there is no number.
 use native.Mathlib.Omega.{arith}
-use Rattle.recordfine.proofs.DigitLaws.{three-few, three-so}
+use Rattle.octets.proofs.WidthLaws.{three-few, three-so}
 use borrow.Author.Needs.{needs}
-use Rattle.recordfine.proofs.digits.three_digits.Statement.{statement}
-use Rattle.recordfine.proofs.digits.three_digits.Tie as tie
+use Rattle.octets.proofs.widths.three_digits.Statement.{statement}
+use Rattle.octets.proofs.widths.three_digits.Tie as tie
 
 digit-requires : tie.Need-digit-requires
 digit-requires c κs = search needs

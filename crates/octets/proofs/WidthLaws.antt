@@ -8,21 +8,18 @@ use native.Mathlib.Nat.{add-zero, zero-add, suc-add, add-assoc, mul-assoc, mul-c
 use native.Mathlib.Omega.{arith}
 use lib.Dec.{ltb}
 use borrow.Author.Tests.{le-leb, ltb-false}
 use Rattle.octets.specs.Number.{byteAt}
 use Rattle.octets.specs.Digits.{isDigit, none, digitsFrom, numberAt}
 use Rattle.octets.specs.Premises.{Number}
 use Rattle.octets.proofs.Cases.{true-or-false}
 use Rattle.octets.proofs.Tests.{then-same, else-same}
-use Rattle.recordfine.specs.Premises.{DigitTold, NumberTold, FiveTold, JoinedTold}
+use Rattle.octets.specs.Told.{DigitTold, NumberTold, FiveTold, JoinedTold}
 
 pub digit-so : (s : List ℕ) (i b r : ℕ) → b ≡ byteAt s i → (r + 48) % 2 ^ 32 ≡ b → DigitTold s i r
 digit-so s i b r read wraps = record { told = λ few. sym read ∙ sym wraps ∙ (let e : (r + 48) % 2 ^ 32 ≡ 48 + r = omega arith in e) }
 
 pub number-none : {s : List ℕ} {i n r : ℕ} → r ≡ none → NumberTold s i n r
 number-none e = record { told = λ less. absurd (omega arith); most = omega arith }
-
-pub number-all : {s : List ℕ} {i n r : ℕ} → Number s i n r → NumberTold s i n r
-number-all d = record { told = λ less. d .is; most = d .most }
 
 pub number-as : {s : List ℕ} {i n r : ℕ} (m : ℕ) → n ≡ m → NumberTold s i m r → NumberTold s i n r
 number-as m e number = rw e number
@@ -143,3 +140,7 @@ joined-fits led scale a b = omega (arith, product-most led scale a b)
 
 pub joined-so : {led last scale : ℕ} → led ≤ 99 → last ≤ 999 → scale ≤ 1000 → JoinedTold led last scale (led * scale + last)
 joined-so {led} {last} {scale} a b c = record { small = λ less. (a, b); is = λ less. refl; most = omega (arith, product-most led scale a c) }
+
+-- a number told one way is the number that is read
+pub number-told : {s : List ℕ} {i n r : ℕ} → NumberTold s i n r → r < none → Number s i n r
+number-told t less = record { is = t .told less; most = t .most }

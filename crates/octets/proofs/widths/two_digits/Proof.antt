@@ -1,9 +1,9 @@
 -- Each is a digit, or there is no number.
 use native.Mathlib.Omega.{arith}
-use Rattle.recordfine.proofs.DigitLaws.{two-few, two-so}
+use Rattle.octets.proofs.WidthLaws.{two-few, two-so}
 use borrow.Author.Needs.{needs}
-use Rattle.recordfine.proofs.digits.two_digits.Statement.{statement}
-use Rattle.recordfine.proofs.digits.two_digits.Tie as tie
+use Rattle.octets.proofs.widths.two_digits.Statement.{statement}
+use Rattle.octets.proofs.widths.two_digits.Tie as tie
 
 digit-requires : tie.Need-digit-requires
 digit-requires c κs = search needs
