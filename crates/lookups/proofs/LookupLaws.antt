@@ -5,7 +5,7 @@ use mathlib.Core.Bool.{Bool, true, false, cond, _||_}
 use mathlib.Core.List.{List, [], _∷_}
 use mathlib.Core.Logic.{_⊎_, inl, inr, ⊎-elim}
 use mathlib.Core.Path.{_≡_, refl, sym, ap, _∙_}
-use native.Mathlib.Nat.{add-zero, zero-add}
+use native.Mathlib.Nat.{add-zero, zero-add, add-assoc}
 use native.Mathlib.Omega.{arith}
 use lib.Dec.{eqb}
 use lib.ListN.{length, getD}
@@ -267,3 +267,19 @@ word-here s start m w near x there inside same = record {
 
 pub word-told : (s : List ℕ) (start m w : ℕ) (r : Bool) → WordTold (wordsIn s start m) w r → r ≡ true → true ≡ isIn w (wordsIn s start m)
 word-told s start m w r told e = told .is e
+
+-- ---- about: a part of words in order is in order
+pub sorted-part : (s : List ℕ) (from m low n : ℕ) → Sorted (wordsIn s from m) → low + n ≤ m → Sorted (wordsIn s (from + low) n)
+sorted-part s from m low n all inside = record {
+  order = λ p q up less.
+      let last : q < n = rw (words-length s (from + low) n) at less in
+      let one : wordAt s (from + (low + p)) ≡ wordAt s (from + low + p) = ap (λ (i : ℕ). wordAt s i) (sym (add-assoc from low p)) in
+      let two : wordAt s (from + (low + q)) ≡ wordAt s (from + low + q) = ap (λ (i : ℕ). wordAt s i) (sym (add-assoc from low q)) in
+      let a = words-at s (from + low) n p (omega arith) in
+      let b = words-at s (from + low) n q last in
+      let x = words-at s from m (low + p) (omega arith) in
+      let y = words-at s from m (low + q) (omega arith) in
+      let less-all : low + q < length (wordsIn s from m) = omega (arith, words-length s from m) in
+      let h = all .order (low + p) (low + q) (omega arith) less-all in
+      omega (arith, a, b, x, y, one, two, h);
+}

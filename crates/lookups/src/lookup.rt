@@ -138,12 +138,44 @@ fn is_there(area: &[u8], from: usize, m: usize, w: u64, near: usize) -> bool
     true
 }
 
-// The same as `has_word`. Before it halves it tries the index `near`, which may be any number.
+// How many words on each side of a guess are halved before all are.
+const ABOUT: usize = 32;
+
+// n less k; none where k is more.
+fn less(n: usize, k: usize) -> usize
+    ensures { λ r. ⌜ r ≤ n ⌝ }
+{
+    if n < k {
+        return 0;
+    }
+    n - k
+}
+
+// The lesser of two.
+fn least(a: usize, b: usize) -> usize
+    ensures { λ r. ⌜ (r ≤ a) × (r ≤ b) ⌝ }
+{
+    if a < b { a } else { b }
+}
+
+// The index at which w stands if it is one of the words about the index `near`: a guess, which
+// promises nothing.
+fn about(area: &[u8], from: usize, m: usize, w: u64, near: usize) -> usize
+    requires { ⌜ (8 * (from + m) ≤ length (now area)) × Sorted (wordsIn (now area) from m) ⌝ }
+{
+    let low = less(least(near, m), ABOUT);
+    let n = least(m - low, 2 * ABOUT);
+    find(area, from + low, n, w) - from
+}
+
+// The same as `has_word`. Before it halves all words it halves those about the index `near`, which
+// may be any number.
 pub fn has_near(area: &[u8], from: usize, m: usize, w: u64, near: usize) -> bool
     requires { ⌜ (8 * (from + m) ≤ length (now area)) × Sorted (wordsIn (now area) from m) ⌝ }
     ensures { λ r. ⌜ r ≡ isIn w (wordsIn (now (area .entry)) from m) ⌝ }
 {
-    if is_there(area, from, m, w, near) {
+    let place = about(area, from, m, w, near);
+    if is_there(area, from, m, w, place) {
         return true;
     }
     has_word(area, from, m, w)

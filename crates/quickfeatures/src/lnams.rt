@@ -16,11 +16,7 @@ use spans::Span;
 use table::kinds;
 use words::get;
 
-// What one FIDN counts in a FOID as a number: AGEN, two bytes, stands below it.
-const FIDN_WEIGHT: u64 = 65536;
-
-// Where a FOID stands if every FIDN from the first FOID on is there once: a guess, which promises
-// nothing.
+// Where a FOID stands if all lie evenly between the first and the last: a guess, which promises nothing.
 fn guess(work: &[u8], m: usize, v: usize, foid: u64) -> usize
     requires { ⌜ Noted (now work) m v ⌝ }
 {
@@ -28,10 +24,18 @@ fn guess(work: &[u8], m: usize, v: usize, foid: u64) -> usize
         return 0;
     }
     let first = get(work, m + v);
+    let last = get(work, m + m - 1);
+    if last < first {
+        return 0;
+    }
+    let step = (last - first) / (m - v) as u64;
+    if step == 0 {
+        return 0;
+    }
     if foid < first {
         return 0;
     }
-    ((foid - first) / FIDN_WEIGHT) as usize
+    ((foid - first) / step) as usize
 }
 
 // Whether the LNAM of an FFPT is the FOID of a feature.

@@ -4,6 +4,9 @@ use borrow.Author.Needs.{needs}
 use Rattle.lookups.proofs.lookup.has_near.Statement.{statement}
 use Rattle.lookups.proofs.lookup.has_near.Tie as tie
 
+about-requires : tie.Need-about-requires
+about-requires c κs = search needs
+
 is-there-requires : tie.Need-is-there-requires
 is-there-requires c κs = search needs
 
@@ -17,4 +20,4 @@ returns-2 : tie.Need-returns-2
 returns-2 c = search needs
 
 pub has-near-spec : {M : Type 1} → statement M
-has-near-spec = tie.close (tie.spec is-there-requires returns has-word-requires returns-2)
+has-near-spec = tie.close (tie.spec about-requires is-there-requires returns has-word-requires returns-2)
