@@ -9,6 +9,7 @@ use native.Mathlib.Numerals.{add-one}
 use native.Mathlib.Omega.{arith}
 use lib.ListN.{length, take, drop, length-drop}
 use lib.Seq.{drop-cons, drop-drop, length-take-le, getD-take}
+use lib.Dec.{leb}
 use borrow.Author.Tests.{eq-eqb, le-leb}
 use Rattle.octets.specs.Number.{byteAt, numAt}
 use Rattle.octets.specs.Premises.{Reads}
@@ -95,6 +96,25 @@ module _ {high : Bool} {d : List ℕ} {from i : ℕ} (r : Bool) (e : Ended d) (s
 
   pub run-fits : i + 1 + 1 ≤ length d
   run-fits = let b = before in omega arith
+
+-- the same of bytes 20 to 7E, which are text at every level
+plain-text : (high r : Bool) (b : ℕ) → r ≡ isText false b → not r ≡ false → true ≡ isText high b
+unfolding isText
+plain-text high r b told text =
+    let is : isText false b ≡ true = told-yes r _ told text in
+    by (leb 32 b && leb b 126) (high && (leb 160 b && leb b 255)) is
+  where
+    by : (x y : Bool) → (x || false) ≡ true → true ≡ (x || y)
+    by true y h = refl
+    by false y h = absurd (let z : _≡_ {A = ℕ} 0 1 = cc in omega arith)
+
+module _ {d : List ℕ} {from i : ℕ} (r : Bool) (e : Ended d) (so : (high : Bool) → TextRun high (contentIn d) from i) (fits : i + 1 ≤ length d)
+    (told : r ≡ isText false (byteAt d i)) (text : not r ≡ false) where
+  pub plain-on : (high : Bool) → TextRun high (contentIn d) from (i + 1)
+  plain-on high = run-on true e (so high) fits (plain-text high r _ told text) refl
+
+  pub plain-fits : i + 1 + 1 ≤ length d
+  plain-fits = run-fits r e (so false) fits told text
 
 -- ---- the entry that a text ends: its fixed bytes at `at`, its text from at + fixed up to the 1F at e
 module _ {high : Bool} {c : List ℕ} {from e : ℕ} (at : ℕ) (sh : Shape) (run : TextRun high c from e) (place : from ≡ at + sh .fixed) (one : sh .unit ≡ 1) (more : e < length c)

@@ -1,7 +1,7 @@
 // Lists with texts, whole and of good values at once: a list of attributes, a list of FFPT. Each takes
 // the bytes d of a field with its closing 1E, which is no text, so that a text needs no other end.
 ghost use Prim.Native.Nat.{_+_, _-_, _≤_};
-ghost use mathlib.Core.Bool.{true};
+ghost use mathlib.Core.Bool.{Bool, true};
 ghost use mathlib.Core.Path.{_≡_};
 ghost use lib.ListN.{length};
 ghost use Rattle.octets.specs.Number.{byteAt};
@@ -12,8 +12,22 @@ use octets::number::get2;
 use octets::number::wide;
 use table::offsets;
 
+// The first byte from `from` on that isn't 20 to 7E: nearly all texts have no others.
+fn plain_run(d: &[u8], from: usize) -> usize
+    requires { ⌜ Ended (now d) × (from + 1 ≤ length (now d)) ⌝ }
+    ensures { λ r. ⌜ ((high : Bool) → TextRun high (contentIn (now (d .entry))) from r) × (r + 1 ≤ length (now (d .entry))) ⌝ }
+{
+    let mut i = from;
+    loop {
+        if !is_text(d[i], false) {
+            return i;
+        }
+        i += 1;
+    }
+}
+
 // The first byte from `from` on that is no text.
-fn text_run(d: &[u8], from: usize, high: bool) -> usize
+fn high_run(d: &[u8], from: usize, high: bool) -> usize
     requires { ⌜ Ended (now d) × (from + 1 ≤ length (now d)) ⌝ }
     ensures { λ r. ⌜ TextRun high (contentIn (now (d .entry))) from r × (r + 1 ≤ length (now (d .entry))) ⌝ }
 {
@@ -24,6 +38,18 @@ fn text_run(d: &[u8], from: usize, high: bool) -> usize
         }
         i += 1;
     }
+}
+
+// The same, without a look at what is high until such a byte comes.
+fn text_run(d: &[u8], from: usize, high: bool) -> usize
+    requires { ⌜ Ended (now d) × (from + 1 ≤ length (now d)) ⌝ }
+    ensures { λ r. ⌜ TextRun high (contentIn (now (d .entry))) from r × (r + 1 ≤ length (now (d .entry))) ⌝ }
+{
+    let i = plain_run(d, from);
+    if d[i] < 160 {
+        return i;
+    }
+    high_run(d, from, high)
 }
 
 // The length of the attribute at `at` whose value is 7F alone; 0 where none stands there. Only
