@@ -34,9 +34,9 @@ while read -r path; do
 done <"$dir/paths" >"$dir/there"
 all_in 'no such file' "$dir/paths" "$dir/there"
 
-# ---- files named behind their folder
+# ---- files named behind their folder; one is the C library's
 find crates crates.txt host bench docs samples -type f | sed 's|.*/||' | sort -u >"$dir/names"
-grep -hoE '[A-Za-z0-9_-]+\.(antt|rt|c|h|sh|md|txt)\b' README.md docs/*.md | grep -vE '^(NAME|FILE)' | sort -u >"$dir/named"
+grep -hoE '[A-Za-z0-9_-]+\.(antt|rt|c|h|sh|md|txt)\b' README.md docs/*.md | grep -vE '^(NAME|FILE|stdio\.h$)' | sort -u >"$dir/named"
 all_in 'no file of this name' "$dir/named" "$dir/names"
 
 # ---- law files, by the name alone

@@ -115,6 +115,11 @@ build_outside() { # STANDARD COMPILER SOURCE [LIBRARIES]
 answers() { # STANDARD CELL UPDATE
     BENCH_OUT=$copies/outside bench/run.sh "outside-$1" "$2" "$3"
 }
+# Whether what README's host kept is what unit keeps of these files.
+same_as_unit() { # BASE UPDATES..
+    mkdir "$copies/alike" && quietly host_in s57-unit admit "$1" "$copies/alike" && quietly host_in s57-unit follow "$copies/alike" "${@:2}" &&
+        cmp "$copies/outside/kept" "$copies/alike/cell.000"
+}
 mkdir "$copies/outside"
 cp host/tests/outside.c "$copies/outside/outside.c"
 cp host/tests/outside.c "$copies/outside/outside.cc"
@@ -136,6 +141,19 @@ judge 0: 0 0 0 0
 admit 0: 0 0 0 8191
 apply 11: 11 2 1 0" answers $standard samples/harbour.000 samples/harbour.002
 done
+
+# ---- README's host of twenty lines, as it stands there
+
+sed -n '/^```c$/,/^```$/p' README.md | sed '/^```/d' >"$copies/outside/keep.c"
+check "README.md has no host" grep -q '^int main' "$copies/outside/keep.c"
+check "README.md's host can't be built" build_outside c11 "$cc" keep.c
+kept() { # FILES..
+    BENCH_OUT=$copies/outside bench/run.sh outside-c11 "$@" 2>&1 >"$copies/outside/kept"
+}
+says 0 "$(sed -n '/^It prints$/,/^Update 3/p' README.md | sed -n 's/^    //p')" kept samples/harbour.000 samples/harbour.001 samples/harbour.003 samples/harbour.002
+check "README.md's host keeps another chart than unit does" same_as_unit samples/harbour.000 samples/harbour.001 samples/harbour.002
+says 0 "$copies/cut.000: code 2, file 1, record 62" kept "$copies/cut.000"
+check "README.md's host keeps something of a cell that was refused" [ ! -s "$copies/outside/kept" ]
 
 # ---- taken away: all of it, and nothing else
 
