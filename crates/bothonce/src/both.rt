@@ -4,7 +4,7 @@ use crate::raise::raise;
 use crate::update::update_from;
 use answers::codes::WORK_EACH;
 use readonce::cell::Read;
-use readonce::cell::cell_once;
+use readonce::cell::cell_read;
 
 // A cell and an update of so many records without any of the codes 1 to 8, or two of which that isn't
 // known.
@@ -18,7 +18,7 @@ pub enum Both {
 pub fn both_once(cell: &[u8], update: &[u8], work: &mut [u8]) -> Both
     ensures { λ r. ⌜ BothTold (now (cell .entry)) (now (update .entry)) (now (work .exit)) r ⌝ }
 {
-    let read = cell_once(cell, work);
+    let read = cell_read(cell, work);
     let Read::All(n) = read else {
         return Both::Not;
     };

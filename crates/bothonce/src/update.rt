@@ -4,6 +4,8 @@ ghost use mathlib.Core.Path.{_≡_};
 ghost use lib.ListN.{length, take};
 ghost use Rattle.bothonce.specs.Both.{UpdateTold, PlacedTold};
 use names::twice::twice;
+use reader::front::Start;
+use reader::front::started;
 use readonce::pass::file_once;
 use words::sort;
 
@@ -12,7 +14,11 @@ use words::sort;
 fn update_once(update: &[u8], area: &mut [u8]) -> usize
     ensures { λ r. ⌜ UpdateTold (now (update .entry)) (now (area .exit)) r ⌝ }
 {
-    let passed = file_once(update, true, area);
+    let start = started(update, 2);
+    let Start::At(at) = start else {
+        return 0;
+    };
+    let passed = file_once(update, at, true, area);
     let m = passed.count;
     if m == 0 {
         return 0;

@@ -2,7 +2,7 @@
 use Prim.Native.Nat.{ℕ, zero, suc, _+_, _-_, _≤_, _<_}
 use mathlib.Core.Bool.{Bool, true, false, not}
 use mathlib.Core.List.{List, []}
-use mathlib.Core.Path.{_≡_, sym, ap, _∙_}
+use mathlib.Core.Path.{_≡_, refl, sym, ap, _∙_}
 use native.Mathlib.Omega.{arith}
 use lib.ListN.{length, replicate, length-replicate}
 use lib.Dec.{eqb}
@@ -13,7 +13,7 @@ use Rattle.iso8211.specs.Field.{countAt, fieldAt}
 use Rattle.iso8211.specs.Premises.{RecordIn}
 use Rattle.iso8211.specs.File.{recordAt}
 use Rattle.iso8211.specs.declared.field.Field.{Field}
-use Rattle.iso8211.proofs.Promise.{fields-in, at-next, at-first}
+use Rattle.iso8211.proofs.Promise.{fields-in, at-next, at-first, at-least}
 use Rattle.table.specs.Table.{kindOf, kindCount}
 use Rattle.attributes.specs.Premises.{Upto}
 use Rattle.attributes.proofs.StampLaws.{upto-zeros, upto-more}
@@ -29,7 +29,8 @@ use Rattle.chart.specs.Read.{nextStage, isFeature, passedState, firstSta
 use Rattle.layout.specs.General.{aallAt, nallAt}
 use Rattle.chart.specs.declared.read.State.{State}
 use Rattle.answers.specs.Answer.{refusal}
-use Rattle.chart.specs.Before.{RecordPassed}
+use Rattle.chart.specs.Before.{RecordPassed, BeforeRecords, ReadTo, startAt}
+use Rattle.chart.specs.declared.read.Reached.{Reached}
 use Rattle.answers.specs.declared.refusal.Refusal.{Refusal}
 
 -- ---- what is known behind a record
@@ -60,16 +61,30 @@ module _ (update : Bool) (s : List ℕ) (at : ℕ) (st : State) (next : ℕ) (fe
   passed-later z = rw (ne-eqb _ _ z, is, told)
 
 -- ---- records_fault: one law for each way through a turn
--- the answer from the start is the answer from record k on, and the stamps of the table are those of the records before
-pub record Reading (update : Bool) (marks s : List ℕ) (n : ℕ) (t : List ℕ) (k at : ℕ) (st : State) : Type 0 where
-  pub is : recordsFault (n - 1) update marks s 1 (recordAt s 1) firstState ≡ recordsFault (n - k) update marks s k at st
+-- the answer from record k on is the whole answer, and the stamps of the table are those of the records before
+pub record Reading (update : Bool) (marks s : List ℕ) (whole : Refusal) (n : ℕ) (t : List ℕ) (k at : ℕ) (st : State) : Type 0 where
+  pub is : whole ≡ recordsFault (n - k) update marks s k at st
   pub upto : Upto t at
 
-pub reading-start : (update : Bool) (marks s : List ℕ) (n : ℕ) (t : List ℕ) (at : ℕ) → at ≡ endOf s 0 → 0 < at → Upto t 0 → Reading update marks s n t 1 at firstState
+-- record 1 starts where record 0 ends
+pub one-at : (s : List ℕ) (at : ℕ) → at ≡ endOf s 0 → recordAt s 1 ≡ at
+one-at s at e = sym (at-next s 0 0 (sym (at-first s))) ∙ sym e
+
+pub reading-start : (update : Bool) (marks s : List ℕ) (n : ℕ) (t : List ℕ) (at : ℕ) → at ≡ endOf s 0 → 0 < at → Upto t 0
+    → Reading update marks s (recordsFault (n - 1) update marks s 1 (recordAt s 1) firstState) n t 1 at firstState
 reading-start update marks s n t at e past u = record {
-  is = ap (λ (x : ℕ). recordsFault (n - 1) update marks s 1 x firstState) (sym (at-next s 0 0 (sym (at-first s))) ∙ sym e);
+  is = ap (λ (x : ℕ). recordsFault (n - 1) update marks s 1 x firstState) (one-at s at e);
   upto = upto-more u past;
 }
+
+-- from any record on
+pub reading-from : {update : Bool} {marks s : List ℕ} {n : ℕ} {t : List ℕ} {from : Reached} → BeforeRecords s n from marks t
+    → Reading update marks s (recordsFault (n - from .index) update marks s (from .index) (from .at) (from .known)) n t (from .index) (from .at) (from .known)
+reading-from {s = s} {n = n} {from = from} so =
+    let low = so .low in
+    let place = so .place in
+    let least = at-least s n (from .index) (so .framed) (so .high) in
+    record { is = refl; upto = upto-more (so .blank) (omega arith) }
 
 records-layout : (m p : ℕ) (update : Bool) (marks s : List ℕ) (k at : ℕ) (st : State) → m ≡ suc p → (layoutFault update (st .stage) marks s at ≡ 0 → ⊥)
     → recordsFault m update marks s k at st ≡ refusal 5 k (layoutFault update (st .stage) marks s at)
@@ -88,20 +103,19 @@ records-next : (m p : ℕ) (update : Bool) (marks s : List ℕ) (k at : ℕ) (st
 unfolding recordsFault
 records-next m p update marks s k at st e h g = rw (e, eq-eqb _ _ h, eq-eqb _ _ g)
 
-module _ {update : Bool} {marks s : List ℕ} {n : ℕ} {t : List ℕ} {k at : ℕ} {st : State} (so : Reading update marks s n t k at st) (more : k < n) where
-  pub reading-layout : (l : ℕ) (r : Refusal) → l ≡ layoutFault update (st .stage) marks s at → (l ≡ 0 → ⊥) → r ≡ refusal 5 k l → r ≡ recordsFault (n - 1) update marks s 1
-      (recordAt s 1) firstState
+module _ {update : Bool} {marks s : List ℕ} {whole : Refusal} {n : ℕ} {t : List ℕ} {k at : ℕ} {st : State} (so : Reading update marks s whole n t k at st) (more : k < n) where
+  pub reading-layout : (l : ℕ) (r : Refusal) → l ≡ layoutFault update (st .stage) marks s at → (l ≡ 0 → ⊥) → r ≡ refusal 5 k l → r ≡ whole
   reading-layout l r e h q =
       q ∙ ap (refusal 5 k) e ∙ sym (so .is ∙ records-layout (n - k) (n - (k + 1)) update marks s k at st (omega arith) (λ z. h (e ∙ z)))
 
   module _ (l : ℕ) (laid-out : l ≡ layoutFault update (st .stage) marks s at) (none : l ≡ 0) {after : List ℕ} {v : ℕ}
       (judged : RecordJudged update (st .aall) (st .nall) s at t after v) where
-    pub reading-value : (r : Refusal) → (v ≡ 0 → ⊥) → r ≡ refusal 6 k v → r ≡ recordsFault (n - 1) update marks s 1 (recordAt s 1) firstState
+    pub reading-value : (r : Refusal) → (v ≡ 0 → ⊥) → r ≡ refusal 6 k v → r ≡ whole
     reading-value r h q =
         let e = judged .fault (so .upto) in
         q ∙ ap (refusal 6 k) e ∙ sym (so .is ∙ records-value (n - k) (n - (k + 1)) update marks s k at st (omega arith) (sym laid-out ∙ none) (λ z. h (e ∙ z)))
 
-    pub reading-on : v ≡ 0 → (next : State) (e : ℕ) → next ≡ passedState update s at st → e ≡ endOf s at → Reading update marks s n after (k + 1) e next
+    pub reading-on : v ≡ 0 → (next : State) (e : ℕ) → next ≡ passedState update s at st → e ≡ endOf s at → Reading update marks s whole n after (k + 1) e next
     reading-on z next e is end = record {
       is = so .is ∙ records-next (n - k) (n - (k + 1)) update marks s k at st (omega arith) (sym laid-out ∙ none) (sym (judged .fault (so .upto)) ∙ z)
           ∙ ap (λ (x : ℕ). recordsFault (n - (k + 1)) update marks s (k + 1) x (passedState update s at st)) (sym end)
@@ -109,12 +123,12 @@ module _ {update : Bool} {marks s : List ℕ} {n : ℕ} {t : List ℕ} {k at : �
       upto = rw end (judged .upto (so .upto));
     }
 
-module _ {update : Bool} {marks s : List ℕ} {n : ℕ} {t : List ℕ} {k at : ℕ} {st : State} (so : Reading update marks s n t k at st) (low : n ≤ k) where
-  pub reading-short : (r : Refusal) → st .stage < 2 → r ≡ refusal 5 k (length s) → r ≡ recordsFault (n - 1) update marks s 1 (recordAt s 1) firstState
+module _ {update : Bool} {marks s : List ℕ} {whole : Refusal} {n : ℕ} {t : List ℕ} {k at : ℕ} {st : State} (so : Reading update marks s whole n t k at st) (low : n ≤ k) where
+  pub reading-short : (r : Refusal) → st .stage < 2 → r ≡ refusal 5 k (length s) → r ≡ whole
   unfolding recordsFault
   reading-short r h q = let z : n - k ≡ 0 = omega arith in q ∙ sym (so .is ∙ rw (z, lt-ltb _ _ h))
 
-  pub reading-end : (r : Refusal) → 2 ≤ st .stage → r ≡ refusal 0 0 0 → r ≡ recordsFault (n - 1) update marks s 1 (recordAt s 1) firstState
+  pub reading-end : (r : Refusal) → 2 ≤ st .stage → r ≡ refusal 0 0 0 → r ≡ whole
   unfolding recordsFault
   reading-end r h q = let z : n - k ≡ 0 = omega arith in q ∙ sym (so .is ∙ rw (z, le-ltb _ _ h))
 
@@ -134,7 +148,7 @@ passing-of update stage marks s at l known e z =
           (three, let size = full-dssi (contentAt s at 2) (rw (f .2) at (d .full 2 (omega arith))) in omega arith);
     }
 
--- ---- read_fault
+-- ---- read_fault_from
 pub read-described : (update : Bool) (s : List ℕ) (n : ℕ) (d : Described) (r : Refusal) → marksOf d ≡ describedOf s → not (d .good) ≡ true → r ≡ refusal 4 0 0
     → r ≡ readFault update s n
 unfolding readFault
@@ -143,14 +157,34 @@ read-described update s n d r e h q =
     let none : describedOf s ≡ [] = sym e ∙ rw good in
     q ∙ rw none
 
-pub read-records : (update : Bool) (s : List ℕ) (n : ℕ) (d : Described) (r : Refusal) → marksOf d ≡ describedOf s → length (d .marks) ≡ kindCount → not (d .good) ≡ false
-    → r ≡ recordsFault (n - 1) update (d .marks) s 1 (recordAt s 1) firstState → r ≡ readFault update s n
+-- where record 0 is described, its marks are those that were taken
+module _ (s : List ℕ) (d : Described) (e : marksOf d ≡ describedOf s) (h : not (d .good) ≡ false) where
+  pub marks-same : describedOf s ≡ d .marks
+  marks-same = let good = not-false (d .good) h in sym e ∙ rw good
+
+  pub marks-some : length (d .marks) ≡ kindCount → length (describedOf s) ≡ 0 → ⊥
+  marks-some all z = let size = ap length marks-same in omega arith
+
+-- and the answer of the file is that of its records
+pub read-start : (update : Bool) (s : List ℕ) (n : ℕ) → (length (describedOf s) ≡ 0 → ⊥)
+    → readFault update s n ≡ recordsFault (n - 1) update (describedOf s) s 1 (recordAt s 1) firstState
 unfolding readFault
-read-records update s n d r e all h q =
-    let good = not-false (d .good) h in
-    let same : describedOf s ≡ d .marks = sym e ∙ rw good in
-    let some : eqb (length (d .marks)) 0 ≡ false = rw all in
-    q ∙ rw (same, some)
+read-start update s n some = rw (ne-eqb _ _ some)
+
+pub read-records : {update : Bool} {s : List ℕ} {n : ℕ} {from : Reached} (d : Described) (r : Refusal) → ReadTo update s n from → marksOf d ≡ describedOf s
+    → length (d .marks) ≡ kindCount → not (d .good) ≡ false
+    → r ≡ recordsFault (n - from .index) update (d .marks) s (from .index) (from .at) (from .known) → r ≡ readFault update s n
+read-records {update} {s} {n} {from} d r so e all h q =
+    q ∙ ap (λ (m : List ℕ). recordsFault (n - from .index) update m s (from .index) (from .at) (from .known)) (sym (marks-same s d e h)) ∙ sym (so .is (marks-some s d e h all))
+
+-- ---- read_fault
+pub read-first : (update : Bool) (s : List ℕ) (n at : ℕ) (from : Reached) → 0 < n → at ≡ endOf s 0 → from ≡ startAt at → ReadTo update s n from
+read-first update s n at from some end is = rw is (record {
+  low = omega arith;
+  high = some;
+  place = sym (one-at s at end);
+  is = λ there. read-start update s n there ∙ ap (λ (x : ℕ). recordsFault (n - 1) update (describedOf s) s 1 x firstState) (one-at s at end);
+})
 
 -- a blank table
 blank-of : (m : ℕ) (t : List ℕ) → t ≡ replicate m 0 → (length t ≡ m) × Upto t 0

@@ -6,3 +6,6 @@ pub mod read;
 
 // The first thing in a framed file of n records that breaks Described, Layout or Value.
 pub use read::read_fault;
+
+// The same where the records before one are known to be good.
+pub use read::read_fault_from;

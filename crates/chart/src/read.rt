@@ -2,8 +2,8 @@
 ghost use Prim.Native.Nat.{_+_, _-_, _≤_, _<_};
 ghost use mathlib.Core.Path.{_≡_};
 ghost use lib.ListN.{length, replicate};
-ghost use Rattle.iso8211.specs.File.{frameOf, recordAt};
-ghost use Rattle.chart.specs.Read.{nextStage, isFeature, passedState, firstState, recordsFault, readFault};
+ghost use Rattle.iso8211.specs.File.{frameOf};
+ghost use Rattle.chart.specs.Read.{nextStage, isFeature, passedState, recordsFault, readFault};
 use described::described;
 use fieldvalue::value::value_fault;
 use iso8211::field::field_at;
@@ -16,7 +16,7 @@ use octets::number::wide;
 use table::kind_of;
 use table::kinds;
 ghost use Rattle.answers.specs.Codes.{mostBytes};
-ghost use Rattle.chart.specs.Before.{BeforeRecords, RecordPassed};
+ghost use Rattle.chart.specs.Before.{BeforeRecords, ReadTo, RecordPassed, startAt};
 use answers::Refusal;
 use answers::codes::DESCRIBED;
 use answers::codes::LAYOUT;
@@ -29,6 +29,29 @@ pub struct State {
     pub stage: usize,
     pub aall: u32,
     pub nall: u32,
+}
+
+// Where reading stands between two records: which one comes next, where it starts, and what is known there.
+pub struct Reached {
+    pub index: usize,
+    pub at: usize,
+    pub known: State,
+}
+
+// Record 1, at `at`: nothing is known yet.
+pub fn start_at(at: usize) -> Reached
+    ensures { λ r. ⌜ r ≡ startAt at ⌝ }
+{
+    let known = State {
+        stage: 0,
+        aall: 0,
+        nall: 0,
+    };
+    Reached {
+        index: 1,
+        at,
+        known,
+    }
 }
 
 fn next_stage(update: bool, stage: usize, feature: bool) -> usize
@@ -76,19 +99,22 @@ fn passed(s: &[u8], at: usize, update: bool, st: State) -> State
     }
 }
 
-// The first record from record 1 on that breaks Layout or Value. The table is for the labels of the
-// lists of attributes: 65,536 zeros.
-fn records_fault(s: &[u8], n: usize, marks: &[u8], update: bool, table: &mut [u32]) -> Refusal
-    requires { ⌜ BeforeRecords (now s) n (now marks) (now table) ⌝ }
-    ensures { λ r. ⌜ r ≡ recordsFault (n - 1) update (now (marks .entry)) (now (s .entry)) 1 (recordAt (now (s .entry)) 1) firstState ⌝ }
+// The first record from there on that breaks Layout or Value. The table is for the labels of the lists
+// of attributes: 65,536 zeros.
+fn records_fault(
+    s: &[u8],
+    n: usize,
+    from: Reached,
+    marks: &[u8],
+    update: bool,
+    table: &mut [u32],
+) -> Refusal
+    requires { ⌜ BeforeRecords (now s) n from (now marks) (now table) ⌝ }
+    ensures { λ r. ⌜ r ≡ recordsFault (n - from .index) update (now (marks .entry)) (now (s .entry)) (from .index) (from .at) (from .known) ⌝ }
 {
-    let mut st = State {
-        stage: 0,
-        aall: 0,
-        nall: 0,
-    };
-    let mut at = record_end(s, 0);
-    let mut k: usize = 1;
+    let mut st = from.known;
+    let mut at = from.at;
+    let mut k = from.index;
     while k < n {
         let stage = st.stage;
         let wrong = layout_fault(s, at, marks, update, stage);
@@ -116,9 +142,10 @@ fn blank() -> [u32; 65536]
     [0; 65536]
 }
 
-// The first thing in a framed file of n records that breaks Described, Layout or Value.
-pub fn read_fault(s: &[u8], n: usize, update: bool) -> Refusal
-    requires { ⌜ (frameOf (now s) ≡ Framed.Records n) × (length (now s) ≤ mostBytes) ⌝ }
+// The first thing in a framed file of n records that breaks Described, Layout or Value, where the
+// records before the one reached are known to be good.
+pub fn read_fault_from(s: &[u8], n: usize, from: Reached, update: bool) -> Refusal
+    requires { ⌜ (frameOf (now s) ≡ Framed.Records n) × (length (now s) ≤ mostBytes) × ReadTo update (now s) n from ⌝ }
     ensures { λ r. ⌜ r ≡ readFault update (now (s .entry)) n ⌝ }
 {
     let d = described(s);
@@ -127,5 +154,13 @@ pub fn read_fault(s: &[u8], n: usize, update: bool) -> Refusal
     }
     let marks = d.marks;
     let mut table = blank();
-    records_fault(s, n, &marks, update, &mut table)
+    records_fault(s, n, from, &marks, update, &mut table)
+}
+
+// The same from record 1 on.
+pub fn read_fault(s: &[u8], n: usize, update: bool) -> Refusal
+    requires { ⌜ (frameOf (now s) ≡ Framed.Records n) × (length (now s) ≤ mostBytes) ⌝ }
+    ensures { λ r. ⌜ r ≡ readFault update (now (s .entry)) n ⌝ }
+{
+    read_fault_from(s, n, start_at(record_end(s, 0)), update)
 }

@@ -16,8 +16,7 @@ use Rattle.names.specs.Names.{twiceOf}
 use Rattle.counted.specs.Counts.{countsGood}
 use Rattle.names.specs.Premises.{HeldIn}
 use Rattle.reader.specs.Reader.{frontOf, workAnswer, cellFault, recordsIn}
-use Rattle.reader.specs.declared.front.Front.{Front}
-use Rattle.reader.specs.declared.front.Front.the-variants.{Count, Refused}
+use Rattle.reader.specs.declared.front.Front.the-variants.{Count}
 use Rattle.reader.proofs.ReaderLaws.{readable, dssi-read, dspm-read, cell-parts}
 use Rattle.topology.specs.Topology.{topologyFault}
 use Rattle.held.specs.Chart.{Chart, chartOf}
@@ -32,12 +31,14 @@ use Rattle.answers.specs.declared.refusal.Refusal.{Refusal}
 use Rattle.answers.specs.Answer.{answer, filed}
 use Rattle.reader.specs.Lent.{FileOpened}
 use Rattle.answers.specs.declared.answer.Answer.{Answer}
-use Rattle.readonce.specs.Once.{CellRead}
+use Rattle.readonce.specs.Once.{CellRead, CellRefused}
+use Rattle.readonce.proofs.CellLaws.{refused-stays}
+use Rattle.judging.proofs.JudgeLaws.{verdict-filed}
 use Rattle.loader.specs.Settling.{Settling}
-use Rattle.readboth.proofs.CallLaws.{front-opened, front-refused, opening-on, opened-refused, worked-short, worked-on}
+use Rattle.readboth.proofs.CallLaws.{front-opened, opening-on, worked-on}
 use Rattle.answers.specs.First.{firstAnswer}
-use Rattle.answers.proofs.FirstLaws.{first-told}
-use Rattle.answers.proofs.AnswerLaws.{code-kept, filed-kept, filed-first, filed-on}
+use Rattle.answers.proofs.FirstLaws.{first-told, first-stays}
+use Rattle.answers.proofs.AnswerLaws.{code-kept, filed-kept, filed-told, filed-first, filed-on}
 
 -- ---- what a verdict without a code says
 pub record Told (s : List ℕ) (n : ℕ) : Type 0 where
@@ -52,10 +53,6 @@ verdict-told s n h =
     let v = first-told (λ (r : Refusal). r .code) (cellFault s n) (topologyFault s n) h in
     let p = cell-parts s n (v .0) in
     record { read = p .0; once = p .1; counted = p .2; topology = v .2 }
-
--- ---- cell_verdict: the words stay
-pub none-held : {s work : List ℕ} {n : ℕ} (r : Refusal) → (r .code ≡ 0 → ⊥) → r .code ≡ 0 → HeldIn s n work
-none-held r ne e = absurd (ne e)
 
 -- ---- held_into
 module _ (s work : List ℕ) (n : ℕ) (so : Ready s n work) where
@@ -124,7 +121,7 @@ module _ (c : Chart) (out : List ℕ) (a : Answer) where
       let none : a .code ≡ 0 = ap (λ (x : Answer). x .code) e in
       rw (eq-eqb (a .code) 0 none) (wrote-whole w ∙ rw end)
 
--- ---- admitted
+-- ---- settled
 module _ (s work : List ℕ) (n : ℕ) (r : Refusal) (is : r ≡ cellVerdict s n) (none : r .code ≡ 0) where
   pub admitted-ready : ((i : ℕ) → byteAt s i < 256) → FileOpened s n → 16 * n ≤ length work → HeldIn s n work → Ready s n work
   admitted-ready small so room held =
@@ -139,9 +136,6 @@ module _ (cell : List ℕ) (n : ℕ) (front : frontOf 1 cell ≡ Count n) (w : �
   admit-opened o =
       opening-on 1 cell (λ (k : ℕ). firstAnswer (workAnswer w k) (firstAnswer (filed 1 (cellVerdict cell k)) (heldAnswer o (chartOf cell k)))) n front
 
-  pub admitted-work : (o : ℕ) (a : Answer) → w < 16 * n → a ≡ answer 3 0 0 (16 * n) 0 → a ≡ admitOf cell w o
-  admitted-work o a h e = worked-short w n _ a h e ∙ sym (admit-opened o)
-
   module _ (room : 16 * n ≤ w) (r : Refusal) (is : r ≡ cellVerdict cell n) (o : ℕ) (a : Answer) where
     pub admitted-filed : (r .code ≡ 0 → ⊥) → a ≡ filed 1 r → a ≡ admitOf cell w o
     admitted-filed ne e = rw (admit-opened o, ← is) (worked-on w n _ a room (filed-first 1 r _ a ne e))
@@ -155,10 +149,7 @@ pub area-opened : (cell : List ℕ) (n : ℕ) → frontOf 1 cell ≡ Count n →
 unfolding admitArea recordsIn
 area-opened cell n front w out next a is e = e ∙ rw (front, is)
 
-pub area-short : (cell : List ℕ) (n : ℕ) → frontOf 1 cell ≡ Count n → (w : ℕ) (out : List ℕ) (a : Answer) → w < 16 * n → a ≡ answer 3 0 0 (16 * n) 0 → out ≡ admitArea cell w out
-area-short cell n front w out a h e = area-opened cell n front w out out a (admitted-work cell n front w (length out) a h e) (work-area (chartOf cell n) out a (16 * n) e)
-
--- ---- settled
+-- ---- of a cell that was judged
 module _ {s work : List ℕ} {n : ℕ} {r : Refusal} (so : Settling s n r work) where
   pub settled-ready : r .code ≡ 0 → ((i : ℕ) → byteAt s i < 256) → Ready s n work
   settled-ready none small = admitted-ready s work n r (so .is) none small (front-opened 1 s n (so .front)) (so .room) (so .words none)
@@ -177,26 +168,28 @@ module _ {s work : List ℕ} {n : ℕ} {r : Refusal} (so : Settling s n r work) 
     pub settled-put : (next : List ℕ) → r .code ≡ 0 → a ≡ heldAnswer (length out) (chartOf s n) → next ≡ areaBy a (chartOf s n) out → next ≡ admitArea s (length work) out
     settled-put next none e by = area-opened s n (so .front) (length work) out next a (settled-held (length out) a none e) by
 
--- of an opened cell, and of one that one pass read
-pub settling-opened : {s work : List ℕ} {n : ℕ} (r : Refusal) → frontOf 1 s ≡ Count n → 16 * n ≤ length work → r ≡ cellVerdict s n → (r .code ≡ 0 → HeldIn s n work)
+-- ---- admitted
+pub settling : {s before work : List ℕ} {n : ℕ} (r : Refusal) → CellRead s n before → length work ≡ length before → r ≡ cellVerdict s n → (r .code ≡ 0 → HeldIn s n work)
     → Settling s n r work
-settling-opened r front room is words = record { front = front; room = room; is = is; words = words }
-
-pub settling-once : {s before work : List ℕ} {n : ℕ} (r : Refusal) → CellRead s n before → length work ≡ length before → r ≡ cellVerdict s n → (r .code ≡ 0 → HeldIn s n work)
-    → Settling s n r work
-settling-once r so size is words = record { front = so .front; room = (let room = so .room in omega arith); is = is; words = words }
+settling r so size is words = record { front = so .front; room = (let room = so .room in omega arith); is = is; words = words }
 
 -- the work area keeps its length while the cell is read
 pub admit-along : (s out : List ℕ) {next : List ℕ} {v w : ℕ} {a : Answer} → v ≡ w → (a ≡ admitOf s v (length out)) × (next ≡ admitArea s v out)
     → (a ≡ admitOf s w (length out)) × (next ≡ admitArea s w out)
 admit-along s out e so = rw e at so
 
--- ---- admitted_again
-module _ (cell : List ℕ) (f : Front) (is : f ≡ frontOf 1 cell) (a : Answer) (told : f ≡ Refused a) where
-  pub admit-refused : (w o : ℕ) → a ≡ admitOf cell w o
+-- a refusal in reading stays
+module _ {s : List ℕ} {w : ℕ} (a : Answer) (so : CellRefused s w a) where
+  admit-refused : (o : ℕ) → a ≡ admitOf s w o
   unfolding admitOf
-  admit-refused w o = opened-refused 1 cell f is _ a told
+  admit-refused o =
+      refused-stays so (λ (n : ℕ). firstAnswer (filed 1 (cellVerdict s n)) (heldAnswer o (chartOf s n)))
+      (λ n some.
+      let same = verdict-filed s n some in
+      first-stays (λ (x : Answer). x .code) (filed 1 (cellVerdict s n)) (heldAnswer o (chartOf s n))
+      (λ (z : filed 1 (cellVerdict s n) .code ≡ 0). some (filed-told 1 (cellFault s n) (ap (λ (x : Answer). x .code) (sym same) ∙ z)))
+      ∙ same)
 
-  pub area-refused : (w : ℕ) (out : List ℕ) → out ≡ admitArea cell w out
+  pub refused-both : (out : List ℕ) → (a ≡ admitOf s w (length out)) × (out ≡ admitArea s w out)
   unfolding admitArea
-  area-refused w out = rw (← admit-refused w (length out)) (area-kept (cellChart cell) out a (front-refused 1 cell a (sym is ∙ told)))
+  refused-both out = (admit-refused (length out), rw (← admit-refused (length out)) (area-kept (cellChart s) out a (so .code)))

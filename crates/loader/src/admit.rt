@@ -2,7 +2,6 @@
 ghost use mathlib.Core.Path.{_≡_};
 ghost use lib.ListN.{length, replicate};
 ghost use Rattle.held.specs.Chart.{chartOf};
-ghost use Rattle.reader.specs.Reader.{frontOf};
 ghost use Rattle.reissue.specs.Plan.{Ready};
 ghost use Rattle.loader.specs.Admit.{heldAnswer, areaBy, admitOf, admitArea};
 ghost use Rattle.loader.specs.Settling.{Settling};
@@ -13,15 +12,10 @@ use answers::answer::filed;
 use answers::codes::MOST_RECORDS;
 use answers::codes::ROOM;
 use answers::codes::SIZE;
-use answers::codes::WORK;
-use answers::codes::WORK_EACH;
 use judging::judge::cell_verdict;
-use judging::judge::verdict_once;
 use octets::area::clear;
-use reader::front::Front;
-use reader::front::opened;
 use readonce::cell::Read;
-use readonce::cell::cell_once;
+use readonce::cell::cell_read;
 use reissue::plan::planned;
 use reissue::write::put_chart;
 
@@ -62,43 +56,18 @@ fn settled(cell: &[u8], n: usize, r: Refusal, out: &mut [u8], work: &[u8]) -> An
     held_into(cell, n, out, work)
 }
 
-// An opened cell of n records: code 3, then 4 to 8, 17 to 19, then these.
-fn admitted(cell: &[u8], n: usize, out: &mut [u8], work: &mut [u8]) -> Answer
-    requires { ⌜ frontOf 1 (now cell) ≡ Front.Count n ⌝ }
+// The refusal in reading, or codes 17 to 19, then these.
+fn admitted(cell: &[u8], out: &mut [u8], work: &mut [u8]) -> Answer
     ensures { λ r. ⌜ r ≡ admitOf (now (cell .entry)) (length (now (work .entry))) (length (now (out .entry))) ⌝ }
     ensures { λ _. ⌜ now (out .exit) ≡ admitArea (now (cell .entry)) (length (now (work .entry))) (now (out .entry)) ⌝ }
 {
-    if work.len() < WORK_EACH * n {
-        return answered(WORK, 0, 0, WORK_EACH * n, 0);
-    }
-    let r = cell_verdict(cell, n, work);
-    settled(cell, n, r, out, work)
-}
-
-// The same, of a cell that is read again, stage by stage, for the one refusal.
-fn admitted_again(cell: &[u8], out: &mut [u8], work: &mut [u8]) -> Answer
-    ensures { λ r. ⌜ r ≡ admitOf (now (cell .entry)) (length (now (work .entry))) (length (now (out .entry))) ⌝ }
-    ensures { λ _. ⌜ now (out .exit) ≡ admitArea (now (cell .entry)) (length (now (work .entry))) (now (out .entry)) ⌝ }
-{
-    let front = opened(cell, 1);
-    match front {
-        Front::Refused(a) => a,
-        Front::Count(n) => admitted(cell, n, out, work),
-    }
-}
-
-// The held form: in one pass over the cell where that suffices.
-fn admitted_once(cell: &[u8], out: &mut [u8], work: &mut [u8]) -> Answer
-    ensures { λ r. ⌜ r ≡ admitOf (now (cell .entry)) (length (now (work .entry))) (length (now (out .entry))) ⌝ }
-    ensures { λ _. ⌜ now (out .exit) ≡ admitArea (now (cell .entry)) (length (now (work .entry))) (now (out .entry)) ⌝ }
-{
-    let read = cell_once(cell, work);
+    let read = cell_read(cell, work);
     match read {
+        Read::Refused(a) => a,
         Read::All(n) => {
-            let r = verdict_once(cell, n, work);
+            let r = cell_verdict(cell, n, work);
             settled(cell, n, r, out, work)
         }
-        Read::Not => admitted_again(cell, out, work),
     }
 }
 
@@ -108,7 +77,7 @@ pub fn admit(cell: &[u8], out: &mut [u8], work: &mut [u8]) -> Answer
     ensures { λ _. ⌜ now (out .exit) ≡ admitArea (now (cell .entry)) (length (now (work .entry))) (now (out .entry)) ⌝ }
     ensures { λ _. ⌜ now (work .exit) ≡ replicate (length (now (work .entry))) 0 ⌝ }
 {
-    let a = admitted_once(cell, out, work);
+    let a = admitted(cell, out, work);
     clear(work);
     a
 }

@@ -17,16 +17,13 @@ use Rattle.reader.specs.Reader.{cellFault, updateFault, bothChecked, bothFault}
 use Rattle.reader.proofs.ReaderLaws.{update-good, cell-good}
 use Rattle.answers.specs.declared.refusal.Refusal.{Refusal}
 use Rattle.answers.specs.Answer.{filed}
-use Rattle.reader.specs.Lent.{WorkOpened, NamesLent, FileOpened, BothOpened, ComeIn, BothIn}
+use Rattle.reader.specs.Lent.{FileOpened, BothOpened, ComeIn, BothIn}
 use Rattle.answers.specs.declared.answer.Answer.{Answer}
 use Rattle.answers.proofs.FirstLaws.{first-told}
 use Rattle.answers.proofs.AnswerLaws.{filed-told, filed-kept, filed-first, filed-on}
 use Rattle.readboth.proofs.CallLaws.{worked-on}
 
 -- ---- what is lent
-pub lent : {s work : List ℕ} {n : ℕ} → WorkOpened s n work → NamesLent s n work
-lent {s} {work} {n} o = let room = o .room in record { framed = o .framed; short = o .short; room = omega arith }
-
 pub both-opened : {cell update work : List ℕ} {n m : ℕ} → FileOpened cell n → FileOpened update m → 16 * (n + m) ≤ length work → BothOpened cell n update m work
 both-opened held come room = record { held = held; come = come; room = room }
 

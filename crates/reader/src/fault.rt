@@ -9,12 +9,16 @@ ghost use Rattle.names.specs.NameWords.{nameWords};
 ghost use Rattle.names.specs.Premises.{Readable, HeldIn};
 ghost use Rattle.names.specs.Names.{firstItem, twiceOf};
 ghost use Rattle.reader.specs.Reader.{cellFault, updateFault};
+use chart::read::Reached;
 use chart::read::read_fault;
+use chart::read::read_fault_from;
+use chart::read::start_at;
 use counted::counts::counts_good;
 use iso8211::field::record_end;
 use names::Repeat;
 use names::order::order;
 use names::twice::twice;
+ghost use Rattle.chart.specs.Before.{ReadTo};
 ghost use Rattle.reader.specs.Lent.{NamesLent, ComeIn};
 use answers::Refusal;
 use answers::codes::COUNTS;
@@ -32,14 +36,14 @@ fn repeated(s: &[u8], n: usize, update: bool, work: &mut [u8]) -> Repeat
     twice(s, n, update, work)
 }
 
-// A cell's codes 4 to 8. One without any has left the words of its items, in held order, in the work
-// area.
-pub fn cell_fault(s: &[u8], n: usize, work: &mut [u8]) -> Refusal
-    requires { ⌜ NamesLent (now s) n (now work) ⌝ }
+// A cell's codes 4 to 8, where the records before the one reached are known to be good. One without any
+// has left the words of its items, in held order, in the work area.
+pub fn cell_fault_from(s: &[u8], n: usize, from: Reached, work: &mut [u8]) -> Refusal
+    requires { ⌜ NamesLent (now s) n (now work) × ReadTo false (now s) n from ⌝ }
     ensures { λ r. ⌜ r ≡ cellFault (now (s .entry)) n ⌝ }
     ensures { λ r. ⌜ (r .code ≡ 0 → HeldIn (now (s .entry)) n (now (work .exit))) ⌝ }
 {
-    let r = read_fault(s, n, false);
+    let r = read_fault_from(s, n, from, false);
     let code = r.code;
     if code != 0 {
         return r;
@@ -53,6 +57,15 @@ pub fn cell_fault(s: &[u8], n: usize, work: &mut [u8]) -> Refusal
         return refuse(COUNTS, 1, record_end(s, 0));
     }
     refuse(0, 0, 0)
+}
+
+// The same from record 1 on.
+pub fn cell_fault(s: &[u8], n: usize, work: &mut [u8]) -> Refusal
+    requires { ⌜ NamesLent (now s) n (now work) ⌝ }
+    ensures { λ r. ⌜ r ≡ cellFault (now (s .entry)) n ⌝ }
+    ensures { λ r. ⌜ (r .code ≡ 0 → HeldIn (now (s .entry)) n (now (work .exit))) ⌝ }
+{
+    cell_fault_from(s, n, start_at(record_end(s, 0)), work)
 }
 
 // An update's codes 4 to 7. One without any has left the words of its records there, by name ascending.

@@ -1,16 +1,22 @@
 // Codes 1 and 2 of a file.
 ghost use mathlib.Core.Path.{_≡_};
-ghost use Rattle.iso8211.specs.File.{recordAt};
-ghost use Rattle.reader.specs.Lent.{GoodBefore};
+ghost use Prim.Native.Nat.{_≤_};
+ghost use lib.ListN.{length};
+ghost use Rattle.answers.specs.Codes.{mostBytes};
+ghost use Rattle.reader.specs.Lent.{FramedTo, StartTold};
 ghost use Rattle.reader.specs.Reader.{frontOf};
 use answers::Answer;
 use answers::answer::answered;
 use answers::codes::FRAME;
 use answers::codes::LONG;
 use answers::codes::MOST_BYTES;
-use iso8211::field::record_end;
-use iso8211::file::Framed;
-use iso8211::file::frame;
+use iso8211::record::good_end;
+
+// Where record 1 of a file starts, or the refusal.
+pub enum Start {
+    At(usize),
+    Refused(Answer),
+}
 
 // How many records a file has, or the refusal.
 pub enum Front {
@@ -18,30 +24,46 @@ pub enum Front {
     Refused(Answer),
 }
 
-// Where record k starts, all before it being good.
-fn place(s: &[u8], k: usize) -> usize
-    requires { ⌜ GoodBefore (now s) k ⌝ }
-    ensures { λ r. ⌜ r ≡ recordAt (now (s .entry)) k ⌝ }
+// Code 1, and code 2 of record 0.
+pub fn started(s: &[u8], file: u32) -> Start
+    ensures { λ r. ⌜ StartTold file (now (s .entry)) r ⌝ }
 {
-    let mut at: usize = 0;
-    let mut j: usize = 0;
-    while j < k {
-        at = record_end(s, at);
-        j += 1;
+    if MOST_BYTES < s.len() {
+        return Start::Refused(answered(LONG, file, 0, 0, 0));
     }
-    at
+    let end = good_end(s, 0, true);
+    if end == 0 {
+        return Start::Refused(answered(FRAME, file, 0, 0, 0));
+    }
+    Start::At(end)
+}
+
+// Code 2 of a file whose records before one, not record 0, are known to be good: that one is record
+// `first`, and it starts at `start`.
+pub fn opened_from(s: &[u8], file: u32, first: usize, start: usize) -> Front
+    requires { ⌜ FramedTo (now s) first start × (length (now s) ≤ mostBytes) ⌝ }
+    ensures { λ r. ⌜ r ≡ frontOf file (now (s .entry)) ⌝ }
+{
+    let mut at = start;
+    let mut k = first;
+    while at < s.len() {
+        let end = good_end(s, at, false);
+        if end == 0 {
+            return Front::Refused(answered(FRAME, file, k, 0, at));
+        }
+        at = end;
+        k += 1;
+    }
+    Front::Count(k)
 }
 
 // A file opened: codes 1 and 2.
 pub fn opened(s: &[u8], file: u32) -> Front
     ensures { λ r. ⌜ r ≡ frontOf file (now (s .entry)) ⌝ }
 {
-    if MOST_BYTES < s.len() {
-        return Front::Refused(answered(LONG, file, 0, 0, 0));
-    }
-    let framed = frame(s);
-    match framed {
-        Framed::Records(n) => Front::Count(n),
-        Framed::Broken(k) => Front::Refused(answered(FRAME, file, k, 0, place(s, k))),
+    let start = started(s, file);
+    match start {
+        Start::Refused(a) => Front::Refused(a),
+        Start::At(at) => opened_from(s, file, 1, at),
     }
 }

@@ -1,22 +1,16 @@
 -- Laws of the pass: what is known between two records, and one law for each way through a turn. Assumes nothing.
-use Prim.Native.Nat.{ℕ, suc, _+_, _-_, _*_, _≤_, _<_}
+use Prim.Native.Nat.{ℕ, _+_, _-_, _≤_, _<_}
 use mathlib.Core.Bool.{Bool, true, false, not, cond}
 use mathlib.Core.List.{List}
-use mathlib.Core.Logic.{⊎-elim, _⊎_}
 use mathlib.Core.Path.{_≡_, refl, sym, ap, _∙_}
 use native.Mathlib.Nat.{le-refl}
 use native.Mathlib.Omega.{arith}
 use lib.ListN.{length}
 use lib.Dec.{eqb}
-use borrow.Author.Tests.{eqb-true, eqb-false, ne-eqb, not-false}
-use Rattle.octets.proofs.Cases.{true-or-false}
-use Rattle.iso8211.specs.Record.{recordGood, endOf}
-use Rattle.iso8211.specs.Premises.{RecordIn, goodEnd}
-use Rattle.iso8211.specs.File.{framedFrom, frameOf, recordAt}
-use Rattle.iso8211.specs.declared.file.Framed.the-variants.{Records}
-use Rattle.iso8211.proofs.RecordLaws.{record-framed}
-use Rattle.iso8211.proofs.FileLaws.{end-past, frame-start, frame-done, frame-on}
-use Rattle.iso8211.proofs.Promise.{at-start, at-on}
+use borrow.Author.Tests.{eqb-true, eqb-false, not-false}
+use Rattle.iso8211.specs.Premises.{RecordIn}
+use Rattle.iso8211.specs.File.{recordAt}
+use Rattle.iso8211.proofs.FileLaws.{end-past}
 use Rattle.attributes.specs.Premises.{Upto}
 use Rattle.declarations.specs.Described.{describedOf}
 use Rattle.declarations.specs.Premises.{marksOf}
@@ -28,9 +22,10 @@ use Rattle.items.specs.Premises.{Identified}
 use Rattle.answers.specs.Answer.{refusal}
 use Rattle.answers.specs.declared.refusal.Refusal.{Refusal}
 use Rattle.chart.specs.Read.{nextStage, isFeature, passedState, firstState, recordsFault, readFault}
-use Rattle.chart.specs.Before.{RecordPassed}
+use Rattle.chart.specs.Before.{RecordPassed, startAt}
+use Rattle.chart.specs.declared.read.Reached.{Reached}
 use Rattle.chart.specs.declared.read.State.{State}
-use Rattle.chart.proofs.ReadLaws.{Reading, reading-start, reading-on, reading-end, passing-of, read-records}
+use Rattle.chart.proofs.ReadLaws.{Reading, reading-start, reading-on, reading-end, passing-of, marks-same, marks-some, read-start, read-first}
 use Rattle.names.specs.Names.{firstItem}
 use Rattle.names.specs.NameWords.{wordsFrom, nameWords}
 use Rattle.names.specs.Area.{Collected}
@@ -39,32 +34,14 @@ use Rattle.chart.proofs.Promise.{Good}
 use Rattle.counted.specs.Tallies.{withRecords, AtMost}
 use Rattle.counted.specs.declared.counts.Tally.{Tally}
 use Rattle.counted.proofs.CountsLaws.{records-none, records-most}
+use Rattle.reader.specs.Lent.{StartedAt, FramedTo}
+use Rattle.reader.proofs.FrontLaws.{framed-start, framed-next}
 use Rattle.reader.proofs.ReaderLaws.{identified}
 use Rattle.recordfine.specs.Told.{FineTold}
 use Rattle.recordfine.specs.declared.Fine.{Fine}
-use Rattle.readonce.specs.Once.{Kept, Counted, noTally, RecordsBefore, RecordsRead, RecordsTold, FileRead, FileTold}
+use Rattle.readonce.specs.Once.{Kept, Counted, noTally, foundAt, RecordsBefore, CameTo, RecordsRead, RecordsTold, FileTold}
 use Rattle.readonce.specs.declared.pass.Passed.{Passed}
 use Rattle.readonce.proofs.GoodLaws.{good-in}
-
--- ---- the framing up to record k, at `at`
-pub record Framing (s : List ℕ) (k at : ℕ) : Type 0 where
-  pub done : at ≡ length s → frameOf s ≡ Records k
-  pub more : (at ≡ length s → ⊥) → frameOf s ≡ framedFrom (suc (length s - k)) s at k
-
-good-end-is : (first : Bool) (s : List ℕ) (at e : ℕ) → recordGood first s at ≡ true → e ≡ endOf s at → e ≡ goodEnd first s at
-unfolding goodEnd
-good-end-is first s at e good is = is ∙ rw good
-
-framing-on : (s : List ℕ) (at k e : ℕ) → frameOf s ≡ framedFrom (suc (length s - k)) s at k → recordGood (eqb k 0) s at ≡ true → e ≡ endOf s at → k ≤ at → e ≤ length s
-    → Framing s (k + 1) e
-framing-on s at k e so good is low most =
-    let ends = good-end-is (eqb k 0) s at e good is in
-    let past = end-past (eqb k 0) s at good in
-    let some : e ≡ 0 → ⊥ = λ (z : e ≡ 0). omega arith in
-    record {
-      done = λ d. sym (frame-done s at k e so ends some d);
-      more = λ m. frame-on s at k e so ends some m low most;
-    }
 
 -- ---- which record is due: that of DSID is record 1, and from the first item on it is a vector or a feature
 pub record Staged (update : Bool) (k stage : ℕ) : Type 0 where
@@ -121,7 +98,8 @@ staged-next update feature k stage at low =
       few = few-of (eqb stage 0) update (eqb stage 1) feature stage (at .few);
     }
 
-staged-on : (update : Bool) (s : List ℕ) (at k : ℕ) (st next : State) → Staged update k (st .stage) → 1 ≤ k → next ≡ passedState update s at st → Staged update (k + 1) (next .stage)
+staged-on : (update : Bool) (s : List ℕ) (at k : ℕ) (st next : State) → Staged update k (st .stage) → 1 ≤ k → next ≡ passedState update s at st
+    → Staged update (k + 1) (next .stage)
 unfolding passedState
 staged-on update s at k st next so low is = rw is (staged-next update (isFeature s at) k (st .stage) so low)
 
@@ -137,12 +115,8 @@ most-more few most = record {
 
 -- ---- between two records: how many records there are is still open, so the answer is known for every number of them
 pub record Passing (update : Bool) (marks s area t now : List ℕ) (c : Tally) (k at : ℕ) (st : State) : Type 0 where
-  pub low : 1 ≤ k
-  pub below : k ≤ at
-  pub fits : at ≤ length s
-  pub place : at ≡ recordAt s k
-  pub framing : Framing s k at
-  pub reading : (n : ℕ) → k ≤ n → Reading update marks s n t k at st
+  pub framed : FramedTo s k at
+  pub reading : (n : ℕ) → k ≤ n → Reading update marks s (recordsFault (n - 1) update marks s 1 (recordAt s 1) firstState) n t k at st
   pub staged : Staged update k (st .stage)
   pub tally : c ≡ withRecords noTally (k - firstItem update) s (recordAt s (firstItem update))
   pub kept : Collected area (wordsFrom (k - firstItem update) s (recordAt s (firstItem update))) (k - firstItem update) now
@@ -150,18 +124,13 @@ pub record Passing (update : Bool) (marks s area t now : List ℕ) (c : Tally) (
 pub passing-start : (update : Bool) (marks s area t : List ℕ) (c : Tally) (start : ℕ) → RecordsBefore s start marks t → c ≡ noTally
     → Passing update marks s area t area c 1 start firstState
 passing-start update marks s area t c start so zero =
-    let past = end-past true s 0 (so .good) in
-    let end = so .ends in
-    let fits = record-framed true s 0 (so .good) .fits in
+    let framed = framed-start (so .started) in
+    let below = framed .below in
     let two = first-low update in
     let none : 1 - firstItem update ≡ 0 = omega arith in
     record {
-      low = omega arith;
-      below = omega arith;
-      fits = omega arith;
-      place = at-on s 0 0 start (at-start s) end;
-      framing = framing-on s 0 0 start (frame-start s) (so .good) end (omega arith) (omega arith);
-      reading = λ n h. reading-start update marks s n t start end (omega arith) (so .blank);
+      framed = framed;
+      reading = λ n h. reading-start update marks s n t start (so .started .ends) (omega arith) (so .blank);
       staged = staged-start update;
       tally = rw none (zero ∙ sym (records-none noTally s (recordAt s (firstItem update))));
       kept = rw none (holds-none s (recordAt s (firstItem update)) area);
@@ -195,7 +164,7 @@ module _ {update : Bool} {marks s area t now : List ℕ} {c : Tally} {k at : ℕ
   pub turn-few : length s ≤ 5242880 → AtMost 5242880 c
   turn-few short =
       let most = records-most (k - firstItem update) s (recordAt s (firstItem update)) in
-      let few : k - firstItem update ≤ 5242880 = let below = so .below in let fits = so .fits in omega arith in
+      let few : k - firstItem update ≤ 5242880 = let below = so .framed .below in let fits = so .framed .fits in omega arith in
       rw (so .tally) (most-more few most)
 
   judged : RecordJudged update (st .aall) (st .nall) s at t after 0
@@ -204,22 +173,12 @@ module _ {update : Bool} {marks s area t now : List ℕ} {c : Tally} {k at : ℕ
   pub turn-on : at < length s → (first : ℕ) → first ≡ firstItem update → {later : List ℕ} {r : Bool} → Kept s at k first now later r → not r ≡ false
       → {d : Tally} → Counted s at k first c d → (next : State) → next ≡ passedState update s at st → Passing update marks s area after later d (k + 1) (f .end) next
   turn-on inside first is {later} {r} kept room {d} counted next moved =
-      let low = so .low in
-      let below = so .below in
-      let past = turn-past in
-      let within = told .within in
-      let none : eqb k 0 ≡ false = ne-eqb k 0 (λ (z : k ≡ 0). omega arith) in
-      let away : at ≡ length s → ⊥ = λ (e : at ≡ length s). omega arith in
       record {
-        low = omega arith;
-        below = omega arith;
-        fits = within;
-        place = at-on s k at (f .end) (so .place) (told .ends some);
-        framing = framing-on s at k (f .end) (so .framing .more away) (rw none (told .good some)) (told .ends some) below within;
+        framed = framed-next (so .framed) inside (f .end) (told .good some) (told .ends some) (told .within);
         reading = λ n h. reading-on (so .reading n (omega arith)) (omega arith) 0 (sym (told .laid some)) refl judged refl next (f .end) moved (told .ends some);
-        staged = staged-on update s at k st next (so .staged) low moved;
-        tally = (rw is at counted) .grown (so .place) (so .tally);
-        kept = (rw is at kept) .grown (not-false r room) (so .place) area (so .kept);
+        staged = staged-on update s at k st next (so .staged) (so .framed .low) moved;
+        tally = (rw is at counted) .grown (so .framed .place) (so .tally);
+        kept = (rw is at kept) .grown (not-false r room) (so .framed .place) area (so .kept);
       }
 
 -- ---- the end of the file
@@ -227,49 +186,62 @@ module _ {update : Bool} {marks s area t now : List ℕ} {c : Tally} {k at : ℕ
   passing-end : length s ≤ at → 2 ≤ st .stage → RecordsRead update marks s k c area now
   unfolding nameWords
   passing-end all two =
-      let fits = so .fits in
+      let fits = so .framed .fits in
       record {
-        framed = so .framing .done (omega arith);
+        framed = so .framed .done (omega arith);
         none = ap (λ (r : Refusal). r .code) (sym (reading-end (so .reading k (le-refl k)) (le-refl k) (refusal 0 0 0) two refl));
         tally = so .tally;
         words = so .kept;
       }
 
-  pub records-all : length s ≤ at → 2 ≤ st .stage → RecordsTold update marks s area now (record { count = k; tally = c })
-  records-all all two = record { told = λ some. passing-end all two }
+  -- where the pass came to
+  came : CameTo update marks s (record { index = k; at = at; known = st })
+  came = record { framed = so .framed; read = λ n h. so .reading n h .is }
 
-pub records-not : {update : Bool} {marks s area now : List ℕ} (r : Passed) → r .count ≡ 0 → RecordsTold update marks s area now r
-records-not r none = record { told = λ some. absurd (some none) }
+  pub records-all : (r : Passed) → length s ≤ at → 2 ≤ st .stage → r ≡ foundAt k c k at st → RecordsTold update marks s area now r
+  records-all r all two is = rw is (record { told = λ some. passing-end all two; came = came })
+
+  pub records-not : {later : List ℕ} {d : Tally} (r : Passed) → r ≡ foundAt 0 d k at st → RecordsTold update marks s area later r
+  records-not r is = rw is (record { told = λ some. absurd (some refl); came = came })
 
 -- ---- file_once
--- record 0
-end-told : (s : List ℕ) (start : ℕ) → start ≡ goodEnd true s 0 → (start ≡ 0 → ⊥) → (recordGood true s 0 ≡ true) × (start ≡ endOf s 0)
-unfolding goodEnd
-end-told s start is some =
-    ⊎-elim (λ (g : recordGood true s 0 ≡ true). (g, is ∙ rw g)) (λ (g : recordGood true s 0 ≡ false). absurd (some (is ∙ rw g))) (true-or-false (recordGood true s 0))
+pub file-described : {s : List ℕ} {start : ℕ} → StartedAt s start → RecordIn s 0
+file-described {s} so = good-in true s 0 (so .good)
 
-pub file-described : (s : List ℕ) (start : ℕ) → start ≡ goodEnd true s 0 → (start ≡ 0 → ⊥) → RecordIn s 0
-file-described s start is some = good-in true s 0 (end-told s start is some .0)
+-- record 0 isn't described
+pub file-not : {update : Bool} {s area now : List ℕ} {start : ℕ} {t : Tally} (from : Reached) (r : Passed) → StartedAt s start → from ≡ startAt start
+    → r ≡ foundAt 0 t (from .index) (from .at) (from .known) → FileTold update s area now r
+file-not {update} {s} {start = start} from r so is found = rw (found, is) (record {
+  told = λ some. absurd (some refl);
+  passed = record { framed = framed-start so; read = λ n h. read-first update s n start (startAt start) h (so .ends) refl };
+})
 
-pub file-not : {update : Bool} {s area now : List ℕ} (r : Passed) → r .count ≡ 0 → FileTold update s area now r
-file-not r none = record { told = λ some. absurd (some none) }
+pub before-records : (s : List ℕ) (start : ℕ) (marks t : List ℕ) → StartedAt s start → length marks ≡ 20 → (length t ≡ 65536) × Upto t 0 → RecordsBefore s start marks t
+before-records s start marks t so twenty blank = record { started = so; twenty = twenty; wide = blank .0; blank = blank .1 }
 
-pub before-records : (s : List ℕ) (start : ℕ) (marks t : List ℕ) → length s ≤ 5242880 → start ≡ goodEnd true s 0 → (start ≡ 0 → ⊥) → length marks ≡ 20
-    → (length t ≡ 65536) × Upto t 0 → RecordsBefore s start marks t
-before-records s start marks t short is some twenty blank =
-    let g = end-told s start is some in
-    record { good = g .0; ends = g .1; short = short; twenty = twenty; wide = blank .0; blank = blank .1 }
-
-pub file-told : {update : Bool} {s area now : List ℕ} (d : Described) (r : Passed) → length s ≤ 5242880 → marksOf d ≡ describedOf s → length (d .marks) ≡ 20 → not (d .good) ≡ false
-    → RecordsTold update (d .marks) s area now r → FileTold update s area now r
-file-told {update} {s} d r short marks twenty good so = record {
-  told = λ some.
-      let all = so .told some in
-      record {
-        framed = all .framed;
-        short = short;
-        none = ap (λ (q : Refusal). q .code) (sym (read-records update s (r .count) d _ marks twenty good refl)) ∙ all .none;
-        tally = all .tally;
-        words = all .words;
+pub file-told : {update : Bool} {s area now : List ℕ} {start : ℕ} (d : Described) (r : Passed) → StartedAt s start → marksOf d ≡ describedOf s → length (d .marks) ≡ 20
+    → not (d .good) ≡ false → RecordsTold update (d .marks) s area now r → FileTold update s area now r
+file-told {update} {s} d r started marks twenty good so =
+    let same = marks-same s d marks good in
+    let some = marks-some s d marks good twenty in
+    let from-start : (n : ℕ) → readFault update s n ≡ recordsFault (n - 1) update (d .marks) s 1 (recordAt s 1) firstState = λ n. rw (← same) (read-start update s n some) in
+    record {
+      told = λ there.
+          let all = so .told there in
+          record {
+            framed = all .framed;
+            short = started .short;
+            none = ap (λ (q : Refusal). q .code) (from-start (r .count)) ∙ all .none;
+            tally = all .tally;
+            words = all .words;
+          };
+      passed = record {
+        framed = so .came .framed;
+        read = λ n h. record {
+          low = so .came .framed .low;
+          high = h;
+          place = so .came .framed .place;
+          is = λ there. rw same (from-start n ∙ so .came .read n h);
+        };
       };
-}
+    }

@@ -1,23 +1,25 @@
 // One pass over a file: framing, layout, values, names and counts of its records.
 ghost use mathlib.Core.Path.{_≡_};
-ghost use lib.ListN.{length, replicate};
-ghost use Rattle.readonce.specs.Once.{noTally, RecordsBefore, RecordsTold, FileTold};
+ghost use lib.ListN.{replicate};
+ghost use Rattle.reader.specs.Lent.{StartedAt};
+ghost use Rattle.readonce.specs.Once.{noTally, foundAt, RecordsBefore, RecordsTold, FileTold};
 use crate::record::count;
 use crate::record::keep;
 use crate::record::passed;
-use answers::codes::MOST_BYTES;
+use chart::read::Reached;
 use chart::read::State;
+use chart::read::start_at;
 use counted::counts::Tally;
 use described::described;
-use iso8211::record::good_end;
 use names::walk::first_item;
 use recordfine::record_fine;
 
-// What a pass found: how many records the file has, 0 where one of them isn't known to be good, and
-// how many of each kind.
+// What a pass found: how many records the file has, 0 where one of them isn't known to be good; how
+// many of each kind; and which record it came to, all before it being good.
 pub struct Passed {
     pub count: usize,
     pub tally: Tally,
+    pub reached: Reached,
 }
 
 // Nothing counted yet.
@@ -34,13 +36,15 @@ fn no_tally() -> Tally
     }
 }
 
-// A file of which nothing is known.
-fn unknown() -> Passed
-    ensures { λ r. ⌜ r .count ≡ 0 ⌝ }
+// This count and tally of a pass that came to record `index`, at `at`.
+fn found(count: usize, tally: Tally, index: usize, at: usize, known: State) -> Passed
+    ensures { λ r. ⌜ r ≡ foundAt count tally index at known ⌝ }
 {
+    let reached = Reached { index, at, known };
     Passed {
-        count: 0,
-        tally: no_tally(),
+        count,
+        tally,
+        reached,
     }
 }
 
@@ -69,10 +73,10 @@ fn records_once(
         let stage = st.stage;
         let f = record_fine(s, at, marks, update, stage, st.aall, st.nall, table);
         if f.end == 0 {
-            return unknown();
+            return found(0, tally, k, at, st);
         }
         if !keep(s, at, f.id, k, first, area) {
-            return unknown();
+            return found(0, tally, k, at, st);
         }
         tally = count(tally, s, at, f.id, k, first);
         st = passed(s, at, update, st, f.kind);
@@ -80,9 +84,9 @@ fn records_once(
         k += 1;
     }
     if st.stage < 2 {
-        return unknown();
+        return found(0, tally, k, at, st);
     }
-    Passed { count: k, tally }
+    found(k, tally, k, at, st)
 }
 
 // A table in which no label is met.
@@ -92,21 +96,16 @@ fn blank() -> [u32; 65536]
     [0; 65536]
 }
 
-// The records of a file that has none of the codes 1, 2, 4, 5 and 6, and for the words of whose items
-// there is room at the front of the area, where they are put.
-pub fn file_once(s: &[u8], update: bool, area: &mut [u8]) -> Passed
+// The records of a file whose record 1 starts at `start`: whether they have none of the codes 2 and 4 to
+// 6 and there is room at the front of the area for the words of its items, which are put there.
+pub fn file_once(s: &[u8], start: usize, update: bool, area: &mut [u8]) -> Passed
+    requires { ⌜ StartedAt (now s) start ⌝ }
     ensures { λ r. ⌜ FileTold update (now (s .entry)) (now (area .entry)) (now (area .exit)) r ⌝ }
 {
-    if MOST_BYTES < s.len() {
-        return unknown();
-    }
-    let start = good_end(s, 0, true);
-    if start == 0 {
-        return unknown();
-    }
     let d = described(s);
     if !d.good {
-        return unknown();
+        let first = start_at(start);
+        return found(0, no_tally(), first.index, first.at, first.known);
     }
     let marks = d.marks;
     let mut table = blank();

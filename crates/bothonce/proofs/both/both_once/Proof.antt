@@ -7,8 +7,8 @@ use borrow.Author.Needs.{needs}
 use Rattle.bothonce.proofs.both.both_once.Statement.{statement}
 use Rattle.bothonce.proofs.both.both_once.Tie as tie
 
-cell-once-requires : tie.Need-cell-once-requires
-cell-once-requires c κs = search needs
+cell-read-requires : tie.Need-cell-read-requires
+cell-read-requires c κs = search needs
 
 enum-known-read : tie.Need-enum-known-read
 enum-known-read c = search needs
@@ -23,11 +23,10 @@ returns : tie.Need-returns
 returns c = both-not
 
 sub-held : tie.Need-sub-held
-sub-held c = held-three (read-all {n = c .before .read .given .0 .0} _ (c .before .before .before .before .before .cell-once .ensures) (search needs))
+sub-held c = held-three (read-all {n = c .before .read .given .0 .0} _ (c .before .before .before .before .before .cell-read .ensures) (search needs))
 
 update-from-requires : tie.Need-update-from-requires
-update-from-requires c κs = let room = (read-all {n = c .before .before .read .given .0 .0} _ (c .before .before .before .before .before .before .cell-once .ensures)
-    (search needs)) .room in omega arith
+update-from-requires c κs = let room = (read-all {n = c .before .before .read .given .0 .0} _ (c .before .before .before .before .before .before .cell-read .ensures) (search needs)) .room in omega arith
 
 same-length-2 : tie.Need-same-length-2
 same-length-2 c = search needs
@@ -36,20 +35,10 @@ returns-2 : tie.Need-returns-2
 returns-2 c = both-not
 
 add-if2 : tie.Need-add-if2
-add-if2 c = omega (
-  arith,
-  held-few (read-all {n = c .before .before .before .before .before .before .read .given .0 .0} _
-      (c .before .before .before .before .before .before .before .before .before .before .cell-once .ensures) (search needs)),
-  come-few (c .before .before .before .update-from .ensures .0) (c .if1 .left),
-)
+add-if2 c = omega (arith, held-few (read-all {n = c .before .before .before .before .before .before .read .given .0 .0} _ (c .before .before .before .before .before .before .before .before .before .before .cell-read .ensures) (search needs)), come-few (c .before .before .before .update-from .ensures .0) (c .if1 .left))
 
 mul-if2 : tie.Need-mul-if2
-mul-if2 c = omega (
-  arith,
-  held-few (read-all {n = c .before .before .before .before .before .before .read .given .0 .0} _
-      (c .before .before .before .before .before .before .before .before .before .before .cell-once .ensures) (search needs)),
-  come-few (c .before .before .before .update-from .ensures .0) (c .if1 .left),
-)
+mul-if2 c = omega (arith, held-few (read-all {n = c .before .before .before .before .before .before .read .given .0 .0} _ (c .before .before .before .before .before .before .before .before .before .before .cell-read .ensures) (search needs)), come-few (c .before .before .before .update-from .ensures .0) (c .if1 .left))
 
 same-length-3 : tie.Need-same-length-3
 same-length-3 c = search needs
@@ -71,18 +60,16 @@ same-length-4 c = search needs
 
 returns-4 : tie.Need-returns-4
 returns-4 c =
-    let so = read-all {n = c .before .before .before .before .before .before .before .before .before .before .before .read .given .0 .0} _
-    (c .before .before .before .before .before .before .before .before .before .before .before .before .before .before .before .cell-once .ensures) (search needs) in
+    let so = read-all {n = c .before .before .before .before .before .before .before .before .before .before .before .read .given .0 .0} _ (c .before .before .before .before .before .before .before .before .before .before .before .before .before .before .before .cell-read .ensures) (search needs) in
     let room = c .before .before .before .before .if2 .left in
     let size = c .before .before .raise .kept .0 in
-    both-all so refl (c .before .before .before .before .before .before .before .before .update-from .ensures .0) (c .before .before .before .before .before .if1 .left)
-    (c .before .before .before .before .before .before .before .before .update-from .ensures .1) (c .before .before .raise .ensures) (omega arith)
+    both-all so refl (c .before .before .before .before .before .before .before .before .update-from .ensures .0) (c .before .before .before .before .before .if1 .left) (c .before .before .before .before .before .before .before .before .update-from .ensures .1) (c .before .before .raise .ensures) (omega arith)
 
 pub both-once-spec : {M : Type 1} → statement M
 both-once-spec =
     tie.close
     (tie.spec
-    cell-once-requires
+    cell-read-requires
     enum-known-read
     enum-told
     same-length

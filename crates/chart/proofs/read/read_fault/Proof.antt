@@ -1,54 +1,24 @@
--- Record 0 first, then the records behind it.
-use Rattle.iso8211.proofs.Promise.{record-in, at-start, last-ends}
-use Rattle.chart.proofs.ReadLaws.{read-described, read-records, blank-upto}
+-- Before record 1 nothing was read.
+use Rattle.iso8211.proofs.Promise.{framed-at, at-start, last-ends}
+use Rattle.chart.proofs.ReadLaws.{read-first}
 use borrow.Author.Needs.{needs}
 use Rattle.chart.proofs.read.read_fault.Statement.{statement}
 use Rattle.chart.proofs.read.read_fault.Tie as tie
 
-described-requires : tie.Need-described-requires
-described-requires c κs = record-in _ _ 0 0 (c .before .pre .0) (last-ends _ _ (c .before .pre .0) .0) (at-start _)
+record-end-requires : tie.Need-record-end-requires
+record-end-requires c κs = framed-at _ _ 0 0 (c .before .pre .0) (last-ends _ _ (c .before .pre .0) .0) (at-start _)
 
-refuse-requires : tie.Need-refuse-requires
-refuse-requires c κs = search needs
+start-at-requires : tie.Need-start-at-requires
+start-at-requires c κs = search needs
+
+read-fault-from-requires : tie.Need-read-fault-from-requires
+read-fault-from-requires c κs =
+    let framed = c .before .before .before .pre .0 in
+    (framed, c .before .before .before .pre .1, read-first _ _ _ _ _ (last-ends _ _ framed .0) (c .before .record-end .ensures .0) (c .start-at .ensures))
 
 returns : tie.Need-returns
-returns c = read-described _ _ _ (c .before .before .before .described .result) _ (c .before .before .before .described .ensures .0) (c .before .if1 .taken) (c .refuse .ensures)
-
-blank-requires : tie.Need-blank-requires
-blank-requires c κs = search needs
-
-slice-aggregate-records-fault : tie.Need-slice-aggregate-records-fault
-slice-aggregate-records-fault c = search needs
-
-slice-aggregate-records-fault-2 : tie.Need-slice-aggregate-records-fault-2
-slice-aggregate-records-fault-2 c = search needs
-
-records-fault-requires : tie.Need-records-fault-requires
-records-fault-requires c κs = record {
-  framed = (c .before .before .before .before .before .before .before .before .pre .0);
-  short =
-      (c .before .before .before .before .before .before .before .before .pre .1);
-  all = (c .before .before .before .before .before .before .described .ensures .1);
-  wide =
-      blank-upto _ (c .before .before .blank .ensures) .0;
-  blank = blank-upto _ (c .before .before .blank .ensures) .1;
-}
-
-returns-2 : tie.Need-returns-2
-returns-2 c = read-records _ _ _ (c .before .before .before .before .before .before .before .before .described .result)
-    _ (c .before .before .before .before .before .before .before .before .described .ensures .0)
-    (c .before .before .before .before .before .before .before .before .described .ensures .1) (c .before .before .before .before .before .before .if1 .left)
-    (c .before .records-fault .ensures)
+returns c = search needs
 
 pub read-fault-spec : {M : Type 1} → statement M
 read-fault-spec =
-    tie.close
-    (tie.spec
-    described-requires
-    refuse-requires
-    returns
-    blank-requires
-    slice-aggregate-records-fault
-    slice-aggregate-records-fault-2
-    records-fault-requires
-    returns-2)
+    tie.close (tie.spec record-end-requires start-at-requires read-fault-from-requires returns)

@@ -1,33 +1,27 @@
-use mathlib.Core.Path.{_∙_, _≡_}
--- The invariant: the answer from the start is the answer from record k on.
+-- The invariant: the answer from the record reached is the answer from record k on.
 use Prim.Native.Nat.{_≤_, _-_}
+use mathlib.Core.Path.{_∙_, _≡_}
 use native.Mathlib.Omega.{arith}
 use lib.ListN.{length}
 use Rattle.iso8211.specs.File.{recordAt}
-use Rattle.iso8211.proofs.Promise.{record-in, framed-at, at-on, at-start, last-ends}
-use Rattle.chart.proofs.ReadLaws.{Reading, reading-start, reading-layout, reading-value, reading-on, reading-short, reading-end, full-of, passing-of}
+use Rattle.iso8211.proofs.Promise.{record-in, at-on}
+use Rattle.chart.specs.Read.{recordsFault}
+use Rattle.chart.proofs.ReadLaws.{Reading, reading-from, reading-layout, reading-value, reading-on, reading-short, reading-end, full-of, passing-of}
 use borrow.Author.Needs.{needs}
 use Rattle.chart.proofs.read.records_fault.Statement.{statement}
 use Rattle.chart.proofs.read.records_fault.Tie as tie
 
 abbrev Inv-loop : tie.InvT-loop
-Inv-loop s n marks update table₀ st₀ at₀ k₀ table st at k = (1 ≤ k) × (k ≤ n) × (at ≡ recordAt s k) × (length table ≡ 65536) × Reading update marks s n table k at st
+Inv-loop s n marks update table₀ st₀ at₀ k₀ table st at k =
+    (1 ≤ k) × (k ≤ n) × (at ≡ recordAt s k) × (length table ≡ 65536) × Reading update marks s (recordsFault (n - k₀) update marks s k₀ at₀ st₀) n table k at st
 
 abbrev μ-loop : tie.MeasureT-loop
 μ-loop s n marks update table₀ st₀ at₀ k₀ table st at k = n - k
 
-record-end-requires : tie.Need-record-end-requires Inv-loop μ-loop
-record-end-requires c κs = framed-at _ _ 0 0 (c .before .before .before .pre .framed) (last-ends _ _ (c .before .before .before .pre .framed) .0) (at-start _)
-
 loop-holds : tie.Need-loop-holds Inv-loop μ-loop
-loop-holds c = (
-  omega arith,
-  last-ends _ _ (c .before .before .before .before .pre .framed) .0,
-  at-on _ 0 0 _ (at-start _) (c .record-end .ensures .0),
-  (c .before .before .before .before .pre .wide),
-  reading-start _ _ _ _ _ _ (c .record-end .ensures .0) (c .record-end .ensures .1 .0)
-      (c .before .before .before .before .pre .blank),
-)
+loop-holds c =
+    let so = c .before .before .before .before .pre in
+    (so .low, so .high, so .place, so .wide, reading-from so)
 
 layout-fault-requires : tie.Need-layout-fault-requires Inv-loop μ-loop
 layout-fault-requires c κs = (
@@ -69,8 +63,8 @@ passed-requires c κs = passing-of _ _ _ _ _ _ (record-in _ _ (c .before .before
     (c .before .before .before .before .before .before .before .loop-test .taken) (c .before .before .before .before .before .before .before .before .loop .inv .2))
     (c .before .before .before .before .before .before .layout-fault .ensures .0) (c .before .before .before .before .before .if1 .left)
 
-record-end-requires-2 : tie.Need-record-end-requires-2 Inv-loop μ-loop
-record-end-requires-2 c κs =
+record-end-requires : tie.Need-record-end-requires Inv-loop μ-loop
+record-end-requires c κs =
     (record-in _ _ (c .before .before .before .before .before .before .before .before .before .loop .k)
     _ (c .before .before .before .before .before .before .before .before .before .before .before .before .before .before .pre .framed)
     (c .before .before .before .before .before .before .before .before .loop-test .taken)
@@ -87,13 +81,13 @@ loop-again c = (
   omega arith,
   omega arith,
   at-on _ _ _ _ (c .before .before .before .before .before .before .before .before .before .before .loop .inv .2)
-      (c .record-end2 .ensures .0),
+      (c .record-end .ensures .0),
   (c .before .before .before .before .before .value-fault .kept .1 .1 .1 .1 .1 .0)
       ∙ (c .before .before .before .before .before .before .before .before .before .before .loop .inv .3),
   reading-on (c .before .before .before .before .before .before .before .before .before .before .loop .inv .4)
       (c .before .before .before .before .before .before .before .before .before .loop-test .taken)
       _ (c .before .before .before .before .before .before .before .before .layout-fault .ensures .0) (c .before .before .before .before .before .before .before .if1 .left)
-      (c .before .before .before .before .before .value-fault .ensures) (c .before .before .if2 .left) _ _ (c .before .passed .ensures) (c .record-end2 .ensures .0),
+      (c .before .before .before .before .before .value-fault .ensures) (c .before .before .if2 .left) _ _ (c .before .passed .ensures) (c .record-end .ensures .0),
 )
 
 refuse-requires-3 : tie.Need-refuse-requires-3 Inv-loop μ-loop
@@ -120,7 +114,6 @@ records-fault-spec =
     (tie.spec
     Inv-loop
     μ-loop
-    record-end-requires
     loop-holds
     layout-fault-requires
     refuse-requires
@@ -131,7 +124,7 @@ records-fault-spec =
     same-length-2
     returns-2
     passed-requires
-    record-end-requires-2
+    record-end-requires
     add-k
     loop-less
     loop-again

@@ -6,8 +6,8 @@ use borrow.Author.Needs.{needs}
 use Rattle.loader.proofs.admit.admit.Statement.{statement}
 use Rattle.loader.proofs.admit.admit.Tie as tie
 
-admitted-once-requires : tie.Need-admitted-once-requires
-admitted-once-requires c κs = search needs
+admitted-requires : tie.Need-admitted-requires
+admitted-requires c κs = search needs
 
 clear-requires : tie.Need-clear-requires
 clear-requires c κs = search needs
@@ -20,9 +20,9 @@ same-length-2 c = search needs
 
 returns : tie.Need-returns
 returns c =
-    let call = c .before .before .before .before .before .before .before .before .admitted-once in
+    let call = c .before .before .before .before .before .before .before .before .admitted in
     (call .ensures .0, (call .ensures .1, (c .before .before .clear .ensures) ∙ ap (λ (k : ℕ). replicate k 0) (call .kept .1 .1 .0)))
 
 pub admit-spec : {M : Type 1} → statement M
 admit-spec =
-    tie.close (tie.spec admitted-once-requires clear-requires same-length same-length-2 returns)
+    tie.close (tie.spec admitted-requires clear-requires same-length same-length-2 returns)

@@ -1,94 +1,29 @@
--- Codes 4 to 6, then 7, then 8; without any of them the words are those that `repeated` left.
+-- Before record 1 nothing was read.
 use mathlib.Core.Bool.{false}
 use Rattle.iso8211.proofs.Promise.{framed-at, at-start, last-ends}
-use Rattle.reader.proofs.ReaderLaws.{readable, dssi-read, cell-read, cell-none, cell-twice, cell-counts, cell-fine, held-refused, held-words}
+use Rattle.chart.proofs.ReadLaws.{read-first}
 use borrow.Author.Needs.{needs}
 use Rattle.reader.proofs.fault.cell_fault.Statement.{statement}
 use Rattle.reader.proofs.fault.cell_fault.Tie as tie
 
-read-fault-requires : tie.Need-read-fault-requires
-read-fault-requires c κs = search needs
+record-end-requires : tie.Need-record-end-requires
+record-end-requires c κs = framed-at _ _ 0 0 (c .before .before .pre .framed) (last-ends _ _ (c .before .before .pre .framed) .0) (at-start _)
 
-returns : tie.Need-returns
-returns c = (cell-read _ _ _ (c .before .read-fault .ensures) (c .if1 .taken), λ z. absurd (c .if1 .taken z))
+start-at-requires : tie.Need-start-at-requires
+start-at-requires c κs = search needs
 
-repeated-requires : tie.Need-repeated-requires
-repeated-requires c κs = (
-  (readable false _ _ (c .before .before .before .before .before .pre .framed) (c .before .before .before .before .before .pre .short)
-      (cell-none _ _ _ (c .before .before .read-fault .ensures) (c .before .if1 .left))),
-  (c .before .before .before .before .before .pre .room),
-)
-
-refuse-requires : tie.Need-refuse-requires
-refuse-requires c κs = search needs
+cell-fault-from-requires : tie.Need-cell-fault-from-requires
+cell-fault-from-requires c κs =
+    let lent = c .before .before .before .before .before .pre in
+    (lent, read-first false _ _ _ _ (last-ends _ _ (lent .framed) .0) (c .before .before .record-end .ensures .0) (c .before .start-at .ensures))
 
 same-length : tie.Need-same-length
 same-length c = search needs
 
-returns-2 : tie.Need-returns-2
-returns-2 c = (
-  cell-twice _ _ _ (c .before .before .before .before .before .before .before .read-fault .ensures) (c .before .before .before .before .before .before .if1 .left)
-      _ (c .before .before .before .before .repeated .ensures .0) _ (c .before .if2 .taken) (c .refuse .ensures),
-  held-refused _ 6 _ _ (c .refuse .ensures),
-)
-
-counts-good-requires : tie.Need-counts-good-requires
-counts-good-requires c κs = (
-  (readable false _ _ (c .before .before .before .before .before .before .before .before .before .pre .framed)
-      (c .before .before .before .before .before .before .before .before .before .pre .short)
-      (cell-none _ _ _ (c .before .before .before .before .before .before .read-fault .ensures) (c .before .before .before .before .before .if1 .left))),
-  dssi-read _ _ (c .before .before .before .before .before .before .before .before .before .pre .framed)
-      (cell-none _ _ _ (c .before .before .before .before .before .before .read-fault .ensures) (c .before .before .before .before .before .if1 .left)),
-)
-
-record-end-requires : tie.Need-record-end-requires
-record-end-requires c κs = framed-at _ _ 0 0 (c .before .before .before .before .before .before .before .before .before .before .before .pre .framed)
-    (last-ends _ _ (c .before .before .before .before .before .before .before .before .before .before .before .pre .framed) .0) (at-start _)
-
-refuse-requires-2 : tie.Need-refuse-requires-2
-refuse-requires-2 c κs = search needs
-
-same-length-2 : tie.Need-same-length-2
-same-length-2 c = search needs
-
-returns-3 : tie.Need-returns-3
-returns-3 c = (
-  cell-counts _ _ _ (c .before .before .before .before .before .before .before .before .before .before .read-fault .ensures)
-      (c .before .before .before .before .before .before .before .before .before .if1 .left) _ (c .before .before .before .before .before .before .before .repeated .ensures .0)
-      (c .before .before .before .before .if2 .left) _ (c .before .before .before .counts-good .ensures) _ _ (c .before .before .if3 .taken) (c .before .record-end .ensures .0)
-      (c .refuse2 .ensures),
-  held-refused _ 7 _ _ (c .refuse2 .ensures),
-)
-
-refuse-requires-3 : tie.Need-refuse-requires-3
-refuse-requires-3 c κs = search needs
-
-same-length-3 : tie.Need-same-length-3
-same-length-3 c = search needs
-
-returns-4 : tie.Need-returns-4
-returns-4 c = (
-  cell-fine _ _ _ (c .before .before .before .before .before .before .before .before .before .read-fault .ensures)
-      (c .before .before .before .before .before .before .before .before .if1 .left) _ (c .before .before .before .before .before .before .repeated .ensures .0)
-      (c .before .before .before .if2 .left) _ (c .before .before .counts-good .ensures) _ (c .before .if3 .left) (c .refuse3 .ensures),
-  λ z. held-words (c .before .before .before .before .before .before .repeated .ensures .1),
-)
+returns : tie.Need-returns
+returns c = search needs
 
 pub cell-fault-spec : {M : Type 1} → statement M
 cell-fault-spec =
     tie.close
-    (tie.spec
-    read-fault-requires
-    returns
-    repeated-requires
-    refuse-requires
-    same-length
-    returns-2
-    counts-good-requires
-    record-end-requires
-    refuse-requires-2
-    same-length-2
-    returns-3
-    refuse-requires-3
-    same-length-3
-    returns-4)
+    (tie.spec record-end-requires start-at-requires cell-fault-from-requires same-length returns)
