@@ -54,7 +54,7 @@ module _ {cell update : List ℕ} {p : At} (able : Able cell update p) (e : p .c
   pub changed-edit : Editable cell (markedOffset (p .word)) update (markedOffset (p .by))
   changed-edit = able .changed e .edit
 
-  changed-is : objectOf cell update p ≡ amended (amendmentAt update (markedOffset (p .by))) (itemAt cell (markedOffset (p .word)))
+  pub changed-is : objectOf cell update p ≡ amended (amendmentAt update (markedOffset (p .by))) (itemAt cell (markedOffset (p .word)))
   unfolding objectBy changedBy
   changed-is =
       let z = able .changed e .held in

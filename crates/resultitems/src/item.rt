@@ -1,16 +1,22 @@
 // An item of the result: the cell's record, the update's, or one built of both in a lent area; its
-// note and its code.
+// note and its code. Of a changed item they are those of the cell's record where nothing changes on
+// which they stand, so that nothing is built.
 ghost use mathlib.Core.Path.{_≡_};
 ghost use Prim.Native.Nat.{_≤_};
 ghost use Rattle.headvalues.specs.Dspm.{mostComf};
 ghost use Rattle.topology.specs.Notes.{noteFor, notedCode};
+ghost use Rattle.items.specs.Word.{rankIn};
 ghost use Rattle.itemrows.specs.Plain.{Stood};
 ghost use Rattle.resultitems.specs.Result.{objectOf};
 ghost use Rattle.resultitems.specs.Able.{Able, Rooms};
+ghost use Rattle.resultitems.specs.Spared.{Classed, ControlTold};
+use iso8211::field::head_of;
 use items::word;
+use joining::lists::total;
 use lookups::starts::Starts;
 use merge::At;
 use rebuild::record::put_edited_record;
+use table::kinds;
 use topology::item_code;
 use topology::note::note_at;
 ghost use Rattle.names.specs.Premises.{Noted};
@@ -33,6 +39,34 @@ pub fn edited(
     put_edited_record(cell, at, update, by, join, table, room)
 }
 
+// The note of an item that the update modifies, whose class has this rank: that of the cell's record,
+// unless a control edits the pointers of an edge.
+fn changed_note(
+    cell: &[u8],
+    update: &[u8],
+    a: At,
+    rank: u64,
+    join: &mut [u8],
+    table: &mut [u32],
+    room: &mut [u8],
+) -> u64
+    requires { ⌜ Able (now cell) (now update) a × (a .change ≡ 1) × (rank ≡ rankIn (a .word)) × Rooms (now join) (now table) (now room) ⌝ }
+    ensures { λ r. ⌜ (r ≡ noteFor (objectOf (now (cell .entry)) (now (update .entry)) a))
+        × Rooms (now (join .exit)) (now (table .exit)) (now (room .exit)) ⌝ }
+{
+    let at = (a.word % word::MARK_WEIGHT) as usize;
+    if rank != 2 {
+        return note_at(cell, at, rank);
+    }
+    let by = (a.by % word::MARK_WEIGHT) as usize;
+    let h = head_of(update, by);
+    if total(update, by, h, kinds::VRPC) == 0 {
+        return note_at(cell, at, rank);
+    }
+    let place = edited(cell, update, a, join, table, room);
+    note_at(room, place, rank)
+}
+
 // The note of an item of the result.
 pub fn note_of(
     cell: &[u8],
@@ -48,14 +82,60 @@ pub fn note_of(
 {
     let rank = a.word / word::RANK_WEIGHT;
     if a.change == 1 {
-        let place = edited(cell, update, a, join, table, room);
-        return note_at(room, place, rank);
+        return changed_note(cell, update, a, rank, join, table, room);
     }
     let at = (a.word % word::MARK_WEIGHT) as usize;
     if a.word / word::MARK_WEIGHT % 2 == 1 {
         return note_at(update, at, rank);
     }
     note_at(cell, at, rank)
+}
+
+// Whether the update's record at `by`, whose class has this rank, has a control: without one it edits
+// attributes alone, on which no code stands.
+fn has_control(update: &[u8], by: usize, rank: u64) -> bool
+    requires { ⌜ Classed (now update) by rank ⌝ }
+    ensures { λ r. ⌜ ControlTold (now (update .entry)) by r ⌝ }
+{
+    let h = head_of(update, by);
+    if rank == 3 {
+        if total(update, by, h, kinds::FFPC) != 0 {
+            return true;
+        }
+        return total(update, by, h, kinds::FSPC) != 0;
+    }
+    if total(update, by, h, kinds::VRPC) != 0 {
+        return true;
+    }
+    total(update, by, h, kinds::SGCC) != 0
+}
+
+// The code of an item that the update modifies: that of the cell's record, unless a control edits one
+// of its lists.
+fn changed_code(
+    cell: &[u8],
+    update: &[u8],
+    a: At,
+    comf: u32,
+    work: &[u8],
+    m: usize,
+    v: usize,
+    starts: Starts,
+    join: &mut [u8],
+    table: &mut [u32],
+    room: &mut [u8],
+) -> u32
+    requires { ⌜ Able (now cell) (now update) a × (a .change ≡ 1) × Noted (now work) m v × (comf ≤ mostComf) × Rooms (now join) (now table) (now room) ⌝ }
+    ensures { λ r. ⌜ (r ≡ notedCode comf (now (work .entry)) m v (objectOf (now (cell .entry)) (now (update .entry)) a))
+        × Rooms (now (join .exit)) (now (table .exit)) (now (room .exit)) ⌝ }
+{
+    let at = (a.word % word::MARK_WEIGHT) as usize;
+    let by = (a.by % word::MARK_WEIGHT) as usize;
+    if !has_control(update, by, a.word / word::RANK_WEIGHT) {
+        return item_code(cell, at, comf, work, m, v, starts);
+    }
+    let place = edited(cell, update, a, join, table, room);
+    item_code(room, place, comf, work, m, v, starts)
 }
 
 // The code of an item, by the words and notes of all m, of which v are vectors; `starts` is where the
@@ -78,8 +158,7 @@ pub fn code_of(
         × Rooms (now (join .exit)) (now (table .exit)) (now (room .exit)) ⌝ }
 {
     if a.change == 1 {
-        let place = edited(cell, update, a, join, table, room);
-        return item_code(room, place, comf, work, m, v, starts);
+        return changed_code(cell, update, a, comf, work, m, v, starts, join, table, room);
     }
     let at = (a.word % word::MARK_WEIGHT) as usize;
     if a.word / word::MARK_WEIGHT % 2 == 1 {
