@@ -1,11 +1,14 @@
 -- What a record of an update brings, as the code reads it. Nothing here need be believed. Assumes nothing.
 use Prim.Native.Nat.{ℕ}
-use mathlib.Core.Bool.{Bool, not}
+use mathlib.Core.Bool.{Bool, true, not}
 use mathlib.Core.List.{List}
+use mathlib.Core.Path.{_≡_}
 use lib.ListN.{length}
 use lib.Dec.{eqb}
 use Rattle.attributes.specs.Attributes.{isRemoval}
 use Rattle.items.specs.Lists.{listAt}
+use Rattle.edits.specs.Lists.{allowedAt}
+use Rattle.changes.specs.Change.{amendmentAt, editOf}
 
 -- an attribute that is no removal
 abbrev pub isKept : List ℕ → Bool
@@ -14,3 +17,7 @@ isKept e = not (isRemoval e)
 -- the record at `at` has no bytes of kind k
 unfoldable pub isEmpty : List ℕ → ℕ → ℕ → Bool
 isEmpty s at k = eqb (length (listAt s at k)) 0
+
+-- where r is true, list k may be edited so, whatever is held
+pub record AddsTold (update : List ℕ) (by k : ℕ) (r : Bool) : Type 0 where
+  pub is : r ≡ true → (held : ℕ → List (List ℕ)) → allowedAt (editOf (amendmentAt update by)) held k ≡ true

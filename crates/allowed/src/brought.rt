@@ -43,7 +43,7 @@ fn is_kept(e: &[u8]) -> bool
 }
 
 // Whether a list of attributes has no removal.
-fn all_kept(s: &[u8], at: usize, h: Head, k: usize) -> bool
+pub fn all_kept(s: &[u8], at: usize, h: Head, k: usize) -> bool
     requires { ⌜ Listed (now s) at h k ⌝ }
     ensures { λ r. ⌜ r ≡ allOf isKept (entriesAt (now (s .entry)) at k) ⌝ }
 {

@@ -1,16 +1,20 @@
 -- The edit of one list, from the two that stand side by side. Assumes nothing.
 use Prim.Native.Nat.{ℕ, _+_, _≤_}
 use mathlib.Core.Bool.{Bool, true, false}
-use mathlib.Core.List.{List, flatten}
+use mathlib.Core.List.{List, [], _∷_, flatten}
 use mathlib.Core.Logic.{⊎-elim}
-use mathlib.Core.Path.{_≡_, sym, ap, _∙_}
+use mathlib.Core.Option.{none}
+use mathlib.Core.Path.{_≡_, refl, sym, ap, _∙_}
 use native.Mathlib.Omega.{arith}
 use lib.ListN.{length}
 use lib.Dec.{eqb}
 use borrow.Author.Tests.{eqb-true}
+use Rattle.octets.specs.Area.{Wrote}
+use Rattle.octets.proofs.AreaLaws.{wrote-as, wrote-length}
 use Rattle.octets.proofs.Cases.{true-or-false}
 use Rattle.entries.specs.declared.Shape.{Shape}
 use Rattle.entries.specs.Entries.{entriesOf}
+use Rattle.entries.proofs.EntriesLaws.{entries-nil}
 use Rattle.table.specs.Table.{rowOf, table}
 use Rattle.attributes.specs.Attributes.{attribute, labelOf, isRemoval}
 use Rattle.layout.specs.Layout.{shapeOf}
@@ -19,8 +23,10 @@ use Rattle.fieldvalue.specs.Value.{isAttributes}
 use Rattle.items.specs.Lists.{listAt, entriesAt}
 use Rattle.items.proofs.ListsLaws.{list-whole}
 use Rattle.items.specs.Item.{listOf, itemAt}
+use Rattle.itemfields.proofs.BytesLaws.{list-bytes}
+use Rattle.edits.specs.AttributeEdit.{changes, changesFind}
 use Rattle.edits.specs.OnePass.{apart, onePass, findable}
-use Rattle.edits.specs.Lists.{listAllowed, listEdited, listsEdited, allowedAt}
+use Rattle.edits.specs.Lists.{listAllowed, listEdited, controlOf, listsEdited, allowedAt}
 use Rattle.edits.proofs.OnePassLaws.{one-pass, one-pass-finds}
 use Rattle.splice.specs.declared.control.Control.{Control}
 use Rattle.splice.specs.Given.{optionOf}
@@ -28,7 +34,7 @@ use Rattle.splice.specs.Put.{Two, ListPut}
 use Rattle.labelled.specs.Table.{Labelled, Blank}
 use Rattle.changes.specs.Change.{amendmentAt, editOf}
 use Rattle.amend.specs.declared.lists.Split.{Split}
-use Rattle.amend.specs.Sides.{Sides, listBytes, Picked, Areas, SideBySide, frontOf, backOf, mayPut, putOf, Ready}
+use Rattle.amend.specs.Sides.{Sides, listBytes, Picked, Areas, SideBySide, frontOf, backOf, mayPut, putOf, Ready, StaysTold}
 
 -- the same list, whatever its verdict and its bytes are called
 pub put-as : {may : Bool} {bytes area next : List ℕ} {at r : ℕ} (might : Bool) (same : List ℕ) → ListPut may bytes area at next r → might ≡ may → (might ≡ true → same ≡ bytes)
@@ -164,6 +170,62 @@ module _ {cell : List ℕ} {at : ℕ} {update : List ℕ} {by : ℕ} (sides : Si
           let first : entriesOf (shapeOf k) (frontOf join s) ≡ listOf cell at k = ap (entriesOf (shapeOf k)) (side .first) ∙ sym (list-entries cell at k (pick .list)) in
           let second : entriesOf (shapeOf k) (backOf join s) ≡ listOf update by k = ap (entriesOf (shapeOf k)) (side .second) ∙ sym (list-entries update by k (pick .list)) in
           put-as _ _ (rw (first, second) at p) allowed-is (λ may. ap flatten (edited-is may))
+
+-- ---- a list that stays
+stays-never : (b : Bool) → b ≡ true → b ≡ false → ⊥
+stays-never b t f = let e : true ≡ false = sym t ∙ f in let z : _≡_ {A = ℕ} 0 1 = cc in omega arith
+
+pub stays-not : (update : List ℕ) (by k : ℕ) (c : Control) → StaysTold update by k c false
+stays-not update by k c = record {
+  free = λ (e : false ≡ true). absurd (stays-never false e refl);
+  bare = λ (e : false ≡ true). absurd (stays-never false e refl);
+}
+
+pub stays-by : {update : List ℕ} {by k : ℕ} {c : Control} (n : ℕ) → c .there ≡ false → n ≡ length (listAt update by k) → StaysTold update by k c (eqb n 0)
+unfolding optionOf
+stays-by n off long = record { free = λ (t : eqb n 0 ≡ true). rw off; bare = λ (t : eqb n 0 ≡ true). sym long ∙ eqb-true n 0 t }
+
+pub stays-room : (place old new n : ℕ) → place + (old + new) ≤ n → place + old ≤ n
+stays-room place old new n h = omega arith
+
+no-bytes : (l : List ℕ) → length l ≡ 0 → l ≡ []
+no-bytes [] e = refl
+no-bytes (b ∷ bs) e = absurd (omega arith)
+
+module _ {cell : List ℕ} {at : ℕ} {update : List ℕ} {by : ℕ} (sides : Sides cell at update by) {k : ℕ} {c : Control} (pick : Picked cell at update by k c) {b : Bool}
+    (told : StaysTold update by k c b) (yes : b ≡ true) where
+  nothing-comes : listOf update by k ≡ []
+  unfolding entriesAt
+  nothing-comes =
+      list-entries update by k (pick .list)
+      ∙ ap (λ (l : List ℕ). entriesOf (shapeOf k) l) (no-bytes (listAt update by k) (told .bare yes))
+      ∙ entries-nil (shapeOf k)
+
+  no-control : controlOf (editOf (amendmentAt update by)) (itemAt cell at .lists) k ≡ none
+  no-control = sym (pick .is) ∙ told .free yes
+
+  stays-allowed : allowedAt (editOf (amendmentAt update by)) (itemAt cell at .lists) k ≡ true
+  unfolding allowedAt changesFind listAllowed
+  stays-allowed =
+      ⊎-elim (λ (t : isAttributes k ≡ true). rw (t, nothing-comes)) (λ (f : isAttributes k ≡ false). rw (f, no-control, nothing-comes))
+      (true-or-false (isAttributes k))
+
+  stays-same : listsEdited (editOf (amendmentAt update by)) (itemAt cell at .lists) k ≡ listOf cell at k
+  unfolding listsEdited changes listEdited
+  stays-same =
+      ⊎-elim (λ (t : isAttributes k ≡ true). rw (t, nothing-comes)) (λ (f : isAttributes k ≡ false). rw (f, no-control))
+      (true-or-false (isAttributes k))
+
+  stays-bytes : listBytes cell at update by k ≡ listAt cell at k
+  stays-bytes = ap flatten stays-same ∙ list-bytes cell at k (sides .old) (pick .list)
+
+  pub stays-put : {a d : List ℕ} {place r : ℕ} → Wrote a place (listAt cell at k) d r
+      → ListPut (allowedAt (editOf (amendmentAt update by)) (itemAt cell at .lists) k) (listBytes cell at update by k) a place d r
+  stays-put w = record {
+    no = λ (f : allowedAt (editOf (amendmentAt update by)) (itemAt cell at .lists) k ≡ false). absurd (stays-never _ stays-allowed f);
+    yes = λ _. wrote-as (listBytes cell at update by k) (sym stays-bytes) w;
+    size = wrote-length w;
+  }
 
 pub sides-areas : {was join before table : List ℕ} → Areas was before → length join ≡ length was → Blank table → Areas join table
 sides-areas areas size zero = record { wide = rw size (areas .wide); zero = zero }

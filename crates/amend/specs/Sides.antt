@@ -3,7 +3,7 @@
 use Prim.Native.Nat.{ℕ, _-_, _≤_, _<_}
 use mathlib.Core.Bool.{Bool, true, cond}
 use mathlib.Core.List.{List, flatten}
-use mathlib.Core.Option.{Option}
+use mathlib.Core.Option.{Option, none}
 use mathlib.Core.Path.{_≡_}
 use lib.ListN.{length, getD, take, drop}
 use Rattle.table.specs.Table.{rowOf}
@@ -78,3 +78,8 @@ pub record Ready (k : ℕ) (c : Control) (old new : List ℕ) : Type 0 where
   pub small : Given c
   pub two : Two (shapeOf k) old new
   pub labels : isAttributes k ≡ true → Labelled old new
+
+-- where r is true, no control acts on list k, and nothing comes to it
+pub record StaysTold (update : List ℕ) (by k : ℕ) (c : Control) (r : Bool) : Type 0 where
+  pub free : r ≡ true → optionOf c ≡ none
+  pub bare : r ≡ true → length (listAt update by k) ≡ 0

@@ -5,13 +5,15 @@ ghost use mathlib.Core.Path.{_≡_};
 ghost use lib.ListN.{length};
 ghost use Rattle.iso8211.specs.Premises.{HeadOf};
 ghost use Rattle.items.specs.Identity.{rcnmAt};
+ghost use Rattle.lying.specs.Lying.{Lain};
 ghost use Rattle.splice.specs.Given.{optionOf, Given};
 ghost use Rattle.changes.specs.Change.{controlAt, amendmentAt};
 ghost use Rattle.amend.specs.Controls.{ControlSize, coordinatesBy, chosen};
 ghost use Rattle.amend.specs.Pairs.{BothRead};
 use iso8211::field::Head;
-use joining::lists::put_list;
-use joining::lists::total;
+use lying::PLACES;
+use lying::put_lying;
+use lying::total_lying;
 use octets::number::get1;
 use octets::number::get2;
 use splice::control::Control;
@@ -34,11 +36,18 @@ pub fn no_control() -> Control
 
 // The control of kind k of the record at `at`, whose bytes are copied to the front of an area and
 // read there.
-pub fn control_of(s: &[u8], at: usize, h: Head, k: usize, join: &mut [u8]) -> Control
-    requires { ⌜ LaidOut (now s) at × HeadOf (now s) at h × ControlSize (now s) at k × (5 ≤ length (now join)) ⌝ }
+pub fn control_of(
+    s: &[u8],
+    at: usize,
+    h: Head,
+    l: &[usize; PLACES],
+    k: usize,
+    join: &mut [u8],
+) -> Control
+    requires { ⌜ LaidOut (now s) at × HeadOf (now s) at h × Lain (now s) at (now l) × ControlSize (now s) at k × (5 ≤ length (now join)) ⌝ }
     ensures { λ r. ⌜ (optionOf r ≡ controlAt (now (s .entry)) at k) × Given r ⌝ }
 {
-    let end = put_list(s, at, h, k, join, 0);
+    let end = put_lying(s, at, h, l, k, join, 0);
     if end == 0 {
         return no_control();
     }
@@ -51,27 +60,41 @@ pub fn control_of(s: &[u8], at: usize, h: Head, k: usize, join: &mut [u8]) -> Co
 }
 
 // The control of VRPT or FFPT of the update's record at `by`, which is of class `rcnm`.
-fn first_of(update: &[u8], by: usize, h: Head, rcnm: u32, join: &mut [u8]) -> Control
-    requires { ⌜ LaidOut (now update) by × HeadOf (now update) by h × (rcnm ≡ rcnmAt (now update) by) × ControlSize (now update) by FFPC × ControlSize (now update) by VRPC
-        × (5 ≤ length (now join)) ⌝ }
+fn first_of(
+    update: &[u8],
+    by: usize,
+    h: Head,
+    l: &[usize; PLACES],
+    rcnm: u32,
+    join: &mut [u8],
+) -> Control
+    requires { ⌜ LaidOut (now update) by × HeadOf (now update) by h × Lain (now update) by (now l) × (rcnm ≡ rcnmAt (now update) by)
+        × ControlSize (now update) by FFPC × ControlSize (now update) by VRPC × (5 ≤ length (now join)) ⌝ }
     ensures { λ r. ⌜ (optionOf r ≡ amendmentAt (now (update .entry)) by .first) × Given r ⌝ }
 {
     if rcnm == 100 {
-        return control_of(update, by, h, kinds::FFPC, join);
+        return control_of(update, by, h, l, kinds::FFPC, join);
     }
-    control_of(update, by, h, kinds::VRPC, join)
+    control_of(update, by, h, l, kinds::VRPC, join)
 }
 
 // That of the coordinates or of FSPT.
-fn second_of(update: &[u8], by: usize, h: Head, rcnm: u32, join: &mut [u8]) -> Control
-    requires { ⌜ LaidOut (now update) by × HeadOf (now update) by h × (rcnm ≡ rcnmAt (now update) by) × ControlSize (now update) by FSPC × ControlSize (now update) by SGCC
-        × (5 ≤ length (now join)) ⌝ }
+fn second_of(
+    update: &[u8],
+    by: usize,
+    h: Head,
+    l: &[usize; PLACES],
+    rcnm: u32,
+    join: &mut [u8],
+) -> Control
+    requires { ⌜ LaidOut (now update) by × HeadOf (now update) by h × Lain (now update) by (now l) × (rcnm ≡ rcnmAt (now update) by)
+        × ControlSize (now update) by FSPC × ControlSize (now update) by SGCC × (5 ≤ length (now join)) ⌝ }
     ensures { λ r. ⌜ (optionOf r ≡ amendmentAt (now (update .entry)) by .second) × Given r ⌝ }
 {
     if rcnm == 100 {
-        return control_of(update, by, h, kinds::FSPC, join);
+        return control_of(update, by, h, l, kinds::FSPC, join);
     }
-    control_of(update, by, h, kinds::SGCC, join)
+    control_of(update, by, h, l, kinds::SGCC, join)
 }
 
 // The two controls that the update's record at `by` may have.
@@ -80,28 +103,46 @@ pub struct Controls {
     pub second: Control,
 }
 
-pub fn controls_of(update: &[u8], by: usize, h: Head, rcnm: u32, join: &mut [u8]) -> Controls
-    requires { ⌜ LaidOut (now update) by × HeadOf (now update) by h × (rcnm ≡ rcnmAt (now update) by) × ControlSize (now update) by VRPC × ControlSize (now update) by SGCC
+pub fn controls_of(
+    update: &[u8],
+    by: usize,
+    h: Head,
+    l: &[usize; PLACES],
+    rcnm: u32,
+    join: &mut [u8],
+) -> Controls
+    requires { ⌜ LaidOut (now update) by × HeadOf (now update) by h × Lain (now update) by (now l) × (rcnm ≡ rcnmAt (now update) by)
+        × ControlSize (now update) by VRPC × ControlSize (now update) by SGCC
         × ControlSize (now update) by FFPC × ControlSize (now update) by FSPC × (5 ≤ length (now join)) ⌝ }
     ensures { λ r. ⌜ BothRead (now (update .entry)) by r ⌝ }
 {
-    let first = first_of(update, by, h, rcnm, join);
-    let second = second_of(update, by, h, rcnm, join);
+    let first = first_of(update, by, h, l, rcnm, join);
+    let second = second_of(update, by, h, l, rcnm, join);
     Controls { first, second }
 }
 
 // Which list SGCC means: the one that is held, or, where neither is, the one that comes.
-pub fn coordinates_of(cell: &[u8], at: usize, hc: Head, update: &[u8], by: usize, hu: Head) -> usize
-    requires { ⌜ LaidOut (now cell) at × HeadOf (now cell) at hc × LaidOut (now update) by × HeadOf (now update) by hu ⌝ }
+pub fn coordinates_of(
+    cell: &[u8],
+    at: usize,
+    hc: Head,
+    lc: &[usize; PLACES],
+    update: &[u8],
+    by: usize,
+    hu: Head,
+    lu: &[usize; PLACES],
+) -> usize
+    requires { ⌜ LaidOut (now cell) at × HeadOf (now cell) at hc × Lain (now cell) at (now lc) × LaidOut (now update) by × HeadOf (now update) by hu
+        × Lain (now update) by (now lu) ⌝ }
     ensures { λ r. ⌜ r ≡ coordinatesBy (now (cell .entry)) at (now (update .entry)) by ⌝ }
 {
-    if total(cell, at, hc, kinds::SG2D) != 0 {
+    if total_lying(cell, at, hc, lc, kinds::SG2D) != 0 {
         return kinds::SG2D;
     }
-    if total(cell, at, hc, kinds::SG3D) != 0 {
+    if total_lying(cell, at, hc, lc, kinds::SG3D) != 0 {
         return kinds::SG3D;
     }
-    if total(update, by, hu, kinds::SG3D) == 0 {
+    if total_lying(update, by, hu, lu, kinds::SG3D) == 0 {
         return kinds::SG2D;
     }
     kinds::SG3D

@@ -13,25 +13,28 @@ ghost use Rattle.layout.specs.Layout.{shapeOf};
 ghost use Rattle.items.specs.Lists.{listAt};
 ghost use Rattle.items.specs.Item.{itemAt};
 ghost use Rattle.edits.specs.Lists.{allowedAt};
+ghost use Rattle.lying.specs.Lying.{Lain};
 ghost use Rattle.splice.specs.Given.{optionOf};
 ghost use Rattle.splice.specs.Put.{ListPut};
 ghost use Rattle.labelled.specs.Table.{Blank};
 ghost use Rattle.changes.specs.Change.{amendmentAt, editOf};
-ghost use Rattle.amend.specs.Sides.{Sides, listBytes, Picked, Areas, SideBySide, frontOf, backOf, mayPut, putOf, Ready};
+ghost use Rattle.amend.specs.Sides.{Sides, listBytes, Picked, Areas, SideBySide, frontOf, backOf, mayPut, putOf, Ready, StaysTold};
 ghost use Rattle.amend.specs.Pairs.{PlanFor};
 use crate::control::control_for;
 use crate::plan::Plan;
 use iso8211::field::Head;
 use items::shape::shape_of;
-use joining::lists::put_list;
 use labelled::labels::put_attributes;
+use lying::PLACES;
+use lying::put_lying;
+use lying::total_lying;
 use splice::control::Control;
 use splice::list::put_spliced;
 use table::kinds;
 ghost use Rattle.items.specs.Premises.{LaidOut};
 
 // Whether a list of kind k is one of attributes.
-fn is_attributes(k: usize) -> bool
+pub fn is_attributes(k: usize) -> bool
     ensures { λ r. ⌜ r ≡ isAttributes k ⌝ }
 {
     if k == kinds::ATTV {
@@ -54,18 +57,20 @@ fn put_sides(
     cell: &[u8],
     at: usize,
     hc: Head,
+    lc: &[usize; PLACES],
     update: &[u8],
     by: usize,
     hu: Head,
+    lu: &[usize; PLACES],
     k: usize,
     join: &mut [u8],
 ) -> Split
-    requires { ⌜ LaidOut (now cell) at × HeadOf (now cell) at hc × LaidOut (now update) by × HeadOf (now update) by hu
-        × (length (listAt (now cell) at k) + length (listAt (now update) by k) ≤ length (now join)) ⌝ }
+    requires { ⌜ LaidOut (now cell) at × HeadOf (now cell) at hc × Lain (now cell) at (now lc) × LaidOut (now update) by × HeadOf (now update) by hu
+        × Lain (now update) by (now lu) × (length (listAt (now cell) at k) + length (listAt (now update) by k) ≤ length (now join)) ⌝ }
     ensures { λ r. ⌜ SideBySide (listAt (now (cell .entry)) at k) (listAt (now (update .entry)) by k) (now (join .exit)) r ⌝ }
 {
-    let held = put_list(cell, at, hc, k, join, 0);
-    let all = put_list(update, by, hu, k, join, held);
+    let held = put_lying(cell, at, hc, lc, k, join, 0);
+    let all = put_lying(update, by, hu, lu, k, join, held);
     Split { held, all }
 }
 
@@ -96,15 +101,29 @@ fn put_joined(
     put_spliced(&join[from..held], &join[held..all], sh, c, room, place)
 }
 
+// Whether no control acts on list k, and the update's record brings nothing to it.
+fn stays(update: &[u8], by: usize, hu: Head, lu: &[usize; PLACES], k: usize, c: Control) -> bool
+    requires { ⌜ LaidOut (now update) by × HeadOf (now update) by hu × Lain (now update) by (now lu) ⌝ }
+    ensures { λ r. ⌜ StaysTold (now (update .entry)) by k c r ⌝ }
+{
+    let there = c.there;
+    if there {
+        return false;
+    }
+    total_lying(update, by, hu, lu, k) == 0
+}
+
 // The edited list of kind k of the cell's record, written from `place` on: where it ends, or 0 where
-// the update's record may not edit it so.
+// the update's record may not edit it so. A list that stays is copied from where it lies.
 fn put_edited(
     cell: &[u8],
     at: usize,
     hc: Head,
+    lc: &[usize; PLACES],
     update: &[u8],
     by: usize,
     hu: Head,
+    lu: &[usize; PLACES],
     k: usize,
     c: Control,
     join: &mut [u8],
@@ -112,13 +131,17 @@ fn put_edited(
     room: &mut [u8],
     place: usize,
 ) -> usize
-    requires { ⌜ Sides (now cell) at (now update) by × HeadOf (now cell) at hc × HeadOf (now update) by hu × Picked (now cell) at (now update) by k c
+    requires { ⌜ Sides (now cell) at (now update) by × HeadOf (now cell) at hc × Lain (now cell) at (now lc) × HeadOf (now update) by hu
+        × Lain (now update) by (now lu) × Picked (now cell) at (now update) by k c
         × Areas (now join) (now table) × (place + (length (listAt (now cell) at k) + length (listAt (now update) by k)) ≤ length (now room)) ⌝ }
     ensures { λ r. ⌜ ListPut (allowedAt (editOf (amendmentAt (now (update .entry)) by)) (itemAt (now (cell .entry)) at .lists) k)
         (listBytes (now (cell .entry)) at (now (update .entry)) by k) (now (room .entry)) place (now (room .exit)) r
         × Areas (now (join .exit)) (now (table .exit)) ⌝ }
 {
-    let s = put_sides(cell, at, hc, update, by, hu, k, join);
+    if stays(update, by, hu, lu, k, c) {
+        return put_lying(cell, at, hc, lc, k, room, place);
+    }
+    let s = put_sides(cell, at, hc, lc, update, by, hu, lu, k, join);
     put_joined(join, s, k, c, table, room, place)
 }
 
@@ -127,9 +150,11 @@ pub fn put_kind(
     cell: &[u8],
     at: usize,
     hc: Head,
+    lc: &[usize; PLACES],
     update: &[u8],
     by: usize,
     hu: Head,
+    lu: &[usize; PLACES],
     k: usize,
     plan: Plan,
     join: &mut [u8],
@@ -137,8 +162,8 @@ pub fn put_kind(
     room: &mut [u8],
     place: usize,
 ) -> usize
-    requires { ⌜ Sides (now cell) at (now update) by × HeadOf (now cell) at hc × HeadOf (now update) by hu × PlanFor (now cell) at (now update) by plan
-        × (rowOf k .list ≡ true) × Areas (now join) (now table)
+    requires { ⌜ Sides (now cell) at (now update) by × HeadOf (now cell) at hc × Lain (now cell) at (now lc) × HeadOf (now update) by hu
+        × Lain (now update) by (now lu) × PlanFor (now cell) at (now update) by plan × (rowOf k .list ≡ true) × Areas (now join) (now table)
         × (place + (length (listAt (now cell) at k) + length (listAt (now update) by k)) ≤ length (now room)) ⌝ }
     ensures { λ r. ⌜ ListPut (allowedAt (editOf (amendmentAt (now (update .entry)) by)) (itemAt (now (cell .entry)) at .lists) k)
         (listBytes (now (cell .entry)) at (now (update .entry)) by k) (now (room .entry)) place (now (room .exit)) r
@@ -148,5 +173,20 @@ pub fn put_kind(
     let second = plan.second;
     let coordinates = plan.coordinates;
     let c = control_for(k, first, second, coordinates);
-    put_edited(cell, at, hc, update, by, hu, k, c, join, table, room, place)
+    put_edited(
+        cell,
+        at,
+        hc,
+        lc,
+        update,
+        by,
+        hu,
+        lu,
+        k,
+        c,
+        join,
+        table,
+        room,
+        place,
+    )
 }

@@ -3,12 +3,14 @@ ghost use Prim.Native.Nat.{_≤_};
 ghost use mathlib.Core.Path.{_≡_};
 ghost use lib.ListN.{length};
 ghost use Rattle.iso8211.specs.Premises.{HeadOf};
+ghost use Rattle.lying.specs.Lying.{Lain};
 ghost use Rattle.changes.specs.Amend.{kindsOf};
 ghost use Rattle.amend.specs.Pairs.{Paired, FourLists, PlanFor};
 use crate::control::controls_of;
 use crate::control::coordinates_of;
 use iso8211::field::Head;
 use items::identity::rcnm_of;
+use lying::PLACES;
 use splice::control::Control;
 use table::kinds;
 
@@ -35,18 +37,21 @@ pub fn plan_of(
     cell: &[u8],
     at: usize,
     hc: Head,
+    lc: &[usize; PLACES],
     update: &[u8],
     by: usize,
     hu: Head,
+    lu: &[usize; PLACES],
     join: &mut [u8],
 ) -> Plan
-    requires { ⌜ Paired (now cell) at (now update) by × HeadOf (now cell) at hc × HeadOf (now update) by hu × (5 ≤ length (now join)) ⌝ }
+    requires { ⌜ Paired (now cell) at (now update) by × HeadOf (now cell) at hc × Lain (now cell) at (now lc) × HeadOf (now update) by hu
+        × Lain (now update) by (now lu) × (5 ≤ length (now join)) ⌝ }
     ensures { λ r. ⌜ PlanFor (now (cell .entry)) at (now (update .entry)) by r ⌝ }
 {
     let rcnm = rcnm_of(cell, at, hc);
     let kinds = kinds_of(rcnm);
-    let coordinates = coordinates_of(cell, at, hc, update, by, hu);
-    let both = controls_of(update, by, hu, rcnm, join);
+    let coordinates = coordinates_of(cell, at, hc, lc, update, by, hu, lu);
+    let both = controls_of(update, by, hu, lu, rcnm, join);
     let first = both.first;
     let second = both.second;
     Plan {

@@ -12,6 +12,7 @@ ghost use Rattle.records.specs.Written.{bodyOf};
 ghost use Rattle.items.specs.Item.{itemAt};
 ghost use Rattle.edits.specs.Lists.{allowedAt};
 ghost use Rattle.itemrows.specs.Joined.{fieldPiece};
+ghost use Rattle.lying.specs.Lying.{Lain};
 ghost use Rattle.changes.specs.Amend.{kindsOf};
 ghost use Rattle.changes.specs.Change.{amendmentAt, editOf};
 ghost use Rattle.amend.specs.Sides.{Sides, listBytes, Areas};
@@ -23,6 +24,8 @@ use amend::plan::plan_of;
 use iso8211::field::Head;
 use iso8211::field::head_of;
 use items::identity::rcnm_of;
+use lying::PLACES;
+use lying::lie;
 use octets::number::put1;
 use raising::heading::put_feature;
 use raising::heading::put_vector;
@@ -32,9 +35,11 @@ fn put_edited_field(
     cell: &[u8],
     at: usize,
     hc: Head,
+    lc: &[usize; PLACES],
     update: &[u8],
     by: usize,
     hu: Head,
+    lu: &[usize; PLACES],
     k: usize,
     plan: Plan,
     join: &mut [u8],
@@ -42,8 +47,9 @@ fn put_edited_field(
     room: &mut [u8],
     place: usize,
 ) -> usize
-    requires { ⌜ Sides (now cell) at (now update) by × HeadOf (now cell) at hc × HeadOf (now update) by hu × PlanFor (now cell) at (now update) by plan
-        × (rowOf k .list ≡ true) × (allowedAt (editOf (amendmentAt (now update) by)) (itemAt (now cell) at .lists) k ≡ true)
+    requires { ⌜ Sides (now cell) at (now update) by × HeadOf (now cell) at hc × Lain (now cell) at (now lc) × HeadOf (now update) by hu
+        × Lain (now update) by (now lu) × PlanFor (now cell) at (now update) by plan × (rowOf k .list ≡ true)
+        × (allowedAt (editOf (amendmentAt (now update) by)) (itemAt (now cell) at .lists) k ≡ true)
         × Areas (now join) (now table) × (place + bothFor (now cell) at (now update) by k ≤ length (now room)) ⌝ }
     ensures { λ r. ⌜ Wrote (now (room .entry)) place (bodyOf (fieldPiece k (listBytes (now (cell .entry)) at (now (update .entry)) by k))) (now (room .exit)) r
         × (place ≤ r) × (r ≤ place + bothFor (now (cell .entry)) at (now (update .entry)) by k) × Areas (now (join .exit)) (now (table .exit)) ⌝ }
@@ -52,9 +58,11 @@ fn put_edited_field(
         cell,
         at,
         hc,
+        lc,
         update,
         by,
         hu,
+        lu,
         k,
         plan,
         join,
@@ -85,16 +93,18 @@ fn put_edited_lists(
     cell: &[u8],
     at: usize,
     hc: Head,
+    lc: &[usize; PLACES],
     update: &[u8],
     by: usize,
     hu: Head,
+    lu: &[usize; PLACES],
     plan: Plan,
     join: &mut [u8],
     table: &mut [u32],
     room: &mut [u8],
 ) -> [u32; 4]
-    requires { ⌜ Editable (now cell) at (now update) by × HeadOf (now cell) at hc × HeadOf (now update) by hu × PlanFor (now cell) at (now update) by plan
-        × Areas (now join) (now table) × (200500 ≤ length (now room)) ⌝ }
+    requires { ⌜ Editable (now cell) at (now update) by × HeadOf (now cell) at hc × Lain (now cell) at (now lc) × HeadOf (now update) by hu
+        × Lain (now update) by (now lu) × PlanFor (now cell) at (now update) by plan × Areas (now join) (now table) × (200500 ≤ length (now room)) ⌝ }
     ensures { λ r. ⌜ ListsPut (listBytes (now (cell .entry)) at (now (update .entry)) by) (plan .kinds) (now (room .exit)) r
         × Areas (now (join .exit)) (now (table .exit)) ⌝ }
 {
@@ -108,9 +118,11 @@ fn put_edited_lists(
             cell,
             at,
             hc,
+            lc,
             update,
             by,
             hu,
+            lu,
             k,
             plan,
             join,
@@ -125,7 +137,43 @@ fn put_edited_lists(
     totals
 }
 
-// The same by what the update's record says.
+// The same by what the update's record says, and by where the lists of both records lie.
+fn put_lists_lying(
+    cell: &[u8],
+    at: usize,
+    hc: Head,
+    lc: &[usize; PLACES],
+    update: &[u8],
+    by: usize,
+    hu: Head,
+    lu: &[usize; PLACES],
+    join: &mut [u8],
+    table: &mut [u32],
+    room: &mut [u8],
+) -> [u32; 4]
+    requires { ⌜ Editable (now cell) at (now update) by × HeadOf (now cell) at hc × Lain (now cell) at (now lc) × HeadOf (now update) by hu
+        × Lain (now update) by (now lu) × Areas (now join) (now table) × (200500 ≤ length (now room)) ⌝ }
+    ensures { λ r. ⌜ ListsPut (listBytes (now (cell .entry)) at (now (update .entry)) by) (kindsOf (rcnmAt (now (cell .entry)) at)) (now (room .exit)) r
+        × Areas (now (join .exit)) (now (table .exit)) ⌝ }
+{
+    let plan = plan_of(cell, at, hc, lc, update, by, hu, lu, join);
+    put_edited_lists(
+        cell,
+        at,
+        hc,
+        lc,
+        update,
+        by,
+        hu,
+        lu,
+        plan,
+        join,
+        table,
+        room,
+    )
+}
+
+// The same, after one walk over each record.
 fn put_lists_by(
     cell: &[u8],
     at: usize,
@@ -141,8 +189,11 @@ fn put_lists_by(
         × Areas (now (join .exit)) (now (table .exit)) ⌝ }
 {
     let hu = head_of(update, by);
-    let plan = plan_of(cell, at, hc, update, by, hu, join);
-    put_edited_lists(cell, at, hc, update, by, hu, plan, join, table, room)
+    let mut lc = [0usize; PLACES];
+    lie(cell, at, hc, &mut lc);
+    let mut lu = [0usize; PLACES];
+    lie(update, by, hu, &mut lu);
+    put_lists_lying(cell, at, hc, &lc, update, by, hu, &lu, join, table, room)
 }
 
 // The record of the object that the modify at `by` makes of the cell's record at `at`, with the

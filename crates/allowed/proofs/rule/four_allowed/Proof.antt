@@ -11,12 +11,12 @@ use Rattle.allowed.proofs.rule.four_allowed.Statement.{statement}
 use Rattle.allowed.proofs.rule.four_allowed.Tie as tie
 
 abbrev Inv-loop : tie.InvT-loop
-Inv-loop cell at hc update by hu plan join₀ table₀ room₀ kinds i₀ join table room i =
+Inv-loop cell at hc lc update by hu lu plan join₀ table₀ room₀ kinds i₀ join table room i =
     (i ≤ 4) × Areas join table × (length join ≡ length join₀) × (length table ≡ length table₀) × (length room ≡ length room₀)
     × (listsAllowed kinds (editOf (amendmentAt update by)) (itemAt cell at .lists) ≡ listsAllowed (drop i kinds) (editOf (amendmentAt update by)) (itemAt cell at .lists))
 
 abbrev μ-loop : tie.MeasureT-loop
-μ-loop cell at hc update by hu plan join₀ table₀ room₀ kinds i₀ join table room i = 4 - i
+μ-loop cell at hc lc update by hu lu plan join₀ table₀ room₀ kinds i₀ join table room i = 4 - i
 
 loop-holds : tie.Need-loop-holds Inv-loop μ-loop
 loop-holds c = search needs
@@ -28,7 +28,7 @@ array-read-k : tie.Need-array-read-k Inv-loop μ-loop
 array-read-k c = search needs
 
 kind-allowed-requires : tie.Need-kind-allowed-requires Inv-loop μ-loop
-kind-allowed-requires c κs = (search needs, search needs, search needs, search needs, search (needs, four-kind), search needs, search needs)
+kind-allowed-requires c κs = (search needs, search needs, search needs, search needs, search needs, search needs, search (needs, four-kind), search needs, search needs)
 
 same-length : tie.Need-same-length Inv-loop μ-loop
 same-length c = search needs

@@ -3,8 +3,8 @@ use Rattle.amend.proofs.ControlLaws.{control-room, control-none, contro
 use Rattle.amend.proofs.control.control_of.Statement.{statement}
 use Rattle.amend.proofs.control.control_of.Tie as tie
 
-put-list-requires : tie.Need-put-list-requires
-put-list-requires c κs = (search needs, search needs, search (needs, control-room))
+put-lying-requires : tie.Need-put-lying-requires
+put-lying-requires c κs = (search needs, search needs, search needs, search (needs, control-room))
 
 no-control-requires : tie.Need-no-control-requires
 no-control-requires c κs = search needs
@@ -21,14 +21,14 @@ get1-requires c κs = search needs
 get2-requires : tie.Need-get2-requires
 get2-requires c κs = search needs
 
-cast-t16 : tie.Need-cast-t16
-cast-t16 c = search needs
+cast-t17 : tie.Need-cast-t17
+cast-t17 c = search needs
 
 get2-requires-2 : tie.Need-get2-requires-2
 get2-requires-2 c κs = search needs
 
-cast-t20 : tie.Need-cast-t20
-cast-t20 c = search needs
+cast-t21 : tie.Need-cast-t21
+cast-t21 c = search needs
 
 same-length-2 : tie.Need-same-length-2
 same-length-2 c = search needs
@@ -40,14 +40,14 @@ pub control-of-spec : {M : Type 1} → statement M
 control-of-spec =
     tie.close
     (tie.spec
-    put-list-requires
+    put-lying-requires
     no-control-requires
     same-length
     returns
     get1-requires
     get2-requires
-    cast-t16
+    cast-t17
     get2-requires-2
-    cast-t20
+    cast-t21
     same-length-2
     returns-2)

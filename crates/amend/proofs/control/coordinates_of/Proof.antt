@@ -3,20 +3,20 @@ use Rattle.amend.proofs.ControlLaws.{means-pairs, means-soundings, mean
 use Rattle.amend.proofs.control.coordinates_of.Statement.{statement}
 use Rattle.amend.proofs.control.coordinates_of.Tie as tie
 
-total-requires : tie.Need-total-requires
-total-requires c κs = search needs
+total-lying-requires : tie.Need-total-lying-requires
+total-lying-requires c κs = search needs
 
 returns : tie.Need-returns
 returns c = search (needs, means-pairs)
 
-total-requires-2 : tie.Need-total-requires-2
-total-requires-2 c κs = search needs
+total-lying-requires-2 : tie.Need-total-lying-requires-2
+total-lying-requires-2 c κs = search needs
 
 returns-2 : tie.Need-returns-2
 returns-2 c = search (needs, means-soundings)
 
-total-requires-3 : tie.Need-total-requires-3
-total-requires-3 c κs = search needs
+total-lying-requires-3 : tie.Need-total-lying-requires-3
+total-lying-requires-3 c κs = search needs
 
 returns-3 : tie.Need-returns-3
 returns-3 c = search (needs, means-none)
@@ -28,10 +28,10 @@ pub coordinates-of-spec : {M : Type 1} → statement M
 coordinates-of-spec =
     tie.close
     (tie.spec
-    total-requires
+    total-lying-requires
     returns
-    total-requires-2
+    total-lying-requires-2
     returns-2
-    total-requires-3
+    total-lying-requires-3
     returns-3
     returns-4)

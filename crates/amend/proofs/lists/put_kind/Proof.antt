@@ -7,7 +7,7 @@ control-for-requires : tie.Need-control-for-requires
 control-for-requires c κs = search needs
 
 put-edited-requires : tie.Need-put-edited-requires
-put-edited-requires c κs = (search needs, search needs, search needs, search (needs, plan-picked), search needs, search needs)
+put-edited-requires c κs = (search needs, search needs, search needs, search needs, search needs, search (needs, plan-picked), search needs, search needs)
 
 same-length : tie.Need-same-length
 same-length c = search needs

@@ -13,7 +13,7 @@ coordinates-of-requires : tie.Need-coordinates-of-requires
 coordinates-of-requires c κs = search needs
 
 controls-of-requires : tie.Need-controls-of-requires
-controls-of-requires c κs = (search needs, search needs, search (needs, class-same), search needs, search needs, search needs, search needs, search needs)
+controls-of-requires c κs = (search needs, search needs, search needs, search (needs, class-same), search needs, search needs, search needs, search needs, search needs)
 
 same-length : tie.Need-same-length
 same-length c = search needs

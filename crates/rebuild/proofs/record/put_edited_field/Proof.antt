@@ -4,7 +4,7 @@ use Rattle.rebuild.proofs.record.put_edited_field.Statement.{statement}
 use Rattle.rebuild.proofs.record.put_edited_field.Tie as tie
 
 put-kind-requires : tie.Need-put-kind-requires
-put-kind-requires c κs = (search needs, search needs, search needs, search needs, search needs, search needs, search (needs, kind-fits))
+put-kind-requires c κs = (search needs, search needs, search needs, search needs, search needs, search needs, search needs, search needs, search (needs, kind-fits))
 
 same-length : tie.Need-same-length
 same-length c = search needs

@@ -8,11 +8,11 @@ use Rattle.rebuild.proofs.record.put_edited_lists.Statement.{statement}
 use Rattle.rebuild.proofs.record.put_edited_lists.Tie as tie
 
 abbrev Inv-loop : tie.InvT-loop
-Inv-loop cell at hc update by hu plan join₀ table₀ room₀ kinds totals₀ next₀ i₀ join table room totals next i =
+Inv-loop cell at hc lc update by hu lu plan join₀ table₀ room₀ kinds totals₀ next₀ i₀ join table room totals next i =
     Putting cell at update by kinds room₀ room next totals i × Areas join table × (length join ≡ length join₀) × (length table ≡ length table₀)
 
 abbrev μ-loop : tie.MeasureT-loop
-μ-loop cell at hc update by hu plan join₀ table₀ room₀ kinds totals₀ next₀ i₀ join table room totals next i = 4 - i
+μ-loop cell at hc lc update by hu lu plan join₀ table₀ room₀ kinds totals₀ next₀ i₀ join table room totals next i = 4 - i
 
 loop-holds : tie.Need-loop-holds Inv-loop μ-loop
 loop-holds c = (search (needs, putting-start), search needs, search needs, search needs)
@@ -26,6 +26,8 @@ array-read-k c = search needs
 put-edited-field-requires : tie.Need-put-edited-field-requires Inv-loop μ-loop
 put-edited-field-requires c κs = (
   search (needs, editable-sides),
+  search needs,
+  search needs,
   search needs,
   search needs,
   search needs,

@@ -1,17 +1,20 @@
+-- The places of both records, found first.
 use borrow.Author.Needs.{needs}
-use Rattle.rebuild.proofs.PuttingLaws.{editable-paired, lists-kinds}
-use Rattle.amend.proofs.RuleLaws.{areas-five, areas-kept}
+use Rattle.lying.proofs.LyingLaws.{zeros}
 use Rattle.rebuild.proofs.record.put_lists_by.Statement.{statement}
 use Rattle.rebuild.proofs.record.put_lists_by.Tie as tie
 
 head-of-requires : tie.Need-head-of-requires
 head-of-requires c κs = search needs
 
-plan-of-requires : tie.Need-plan-of-requires
-plan-of-requires c κs = (search (needs, editable-paired), search needs, search needs, search (needs, areas-five))
+lie-requires : tie.Need-lie-requires
+lie-requires c κs = (search needs, search needs, search (needs, zeros))
 
-put-edited-lists-requires : tie.Need-put-edited-lists-requires
-put-edited-lists-requires c κs = (search needs, search needs, search needs, search needs, search (needs, areas-kept), search needs)
+lie-requires-2 : tie.Need-lie-requires-2
+lie-requires-2 c κs = (search needs, search needs, search (needs, zeros))
+
+put-lists-lying-requires : tie.Need-put-lists-lying-requires
+put-lists-lying-requires c κs = search needs
 
 same-length : tie.Need-same-length
 same-length c = search needs
@@ -23,15 +26,16 @@ same-length-3 : tie.Need-same-length-3
 same-length-3 c = search needs
 
 returns : tie.Need-returns
-returns c = (search (needs, lists-kinds), search needs)
+returns c = search needs
 
 pub put-lists-by-spec : {M : Type 1} → statement M
 put-lists-by-spec =
     tie.close
     (tie.spec
     head-of-requires
-    plan-of-requires
-    put-edited-lists-requires
+    lie-requires
+    lie-requires-2
+    put-lists-lying-requires
     same-length
     same-length-2
     same-length-3

@@ -1,0 +1,2 @@
+-- The laws of `lying`.
+pub mod LyingLaws

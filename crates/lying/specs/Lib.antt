@@ -1,0 +1,2 @@
+-- The notion of `lying`.
+pub mod Lying
