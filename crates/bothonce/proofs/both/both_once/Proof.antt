@@ -26,7 +26,8 @@ sub-held : tie.Need-sub-held
 sub-held c = held-three (read-all {n = c .before .read .given .0 .0} _ (c .before .before .before .before .before .cell-read .ensures) (search needs))
 
 update-from-requires : tie.Need-update-from-requires
-update-from-requires c κs = let room = (read-all {n = c .before .before .read .given .0 .0} _ (c .before .before .before .before .before .before .cell-read .ensures) (search needs)) .room in omega arith
+update-from-requires c κs = let room = (read-all {n = c .before .before .read .given .0 .0} _ (c .before .before .before .before .before .before .cell-read .ensures)
+    (search needs)) .room in omega arith
 
 same-length-2 : tie.Need-same-length-2
 same-length-2 c = search needs
@@ -35,10 +36,20 @@ returns-2 : tie.Need-returns-2
 returns-2 c = both-not
 
 add-if2 : tie.Need-add-if2
-add-if2 c = omega (arith, held-few (read-all {n = c .before .before .before .before .before .before .read .given .0 .0} _ (c .before .before .before .before .before .before .before .before .before .before .cell-read .ensures) (search needs)), come-few (c .before .before .before .update-from .ensures .0) (c .if1 .left))
+add-if2 c = omega (
+  arith,
+  held-few (read-all {n = c .before .before .before .before .before .before .read .given .0 .0} _
+      (c .before .before .before .before .before .before .before .before .before .before .cell-read .ensures) (search needs)),
+  come-few (c .before .before .before .update-from .ensures .0) (c .if1 .left),
+)
 
 mul-if2 : tie.Need-mul-if2
-mul-if2 c = omega (arith, held-few (read-all {n = c .before .before .before .before .before .before .read .given .0 .0} _ (c .before .before .before .before .before .before .before .before .before .before .cell-read .ensures) (search needs)), come-few (c .before .before .before .update-from .ensures .0) (c .if1 .left))
+mul-if2 c = omega (
+  arith,
+  held-few (read-all {n = c .before .before .before .before .before .before .read .given .0 .0} _
+      (c .before .before .before .before .before .before .before .before .before .before .cell-read .ensures) (search needs)),
+  come-few (c .before .before .before .update-from .ensures .0) (c .if1 .left),
+)
 
 same-length-3 : tie.Need-same-length-3
 same-length-3 c = search needs
@@ -60,10 +71,12 @@ same-length-4 c = search needs
 
 returns-4 : tie.Need-returns-4
 returns-4 c =
-    let so = read-all {n = c .before .before .before .before .before .before .before .before .before .before .before .read .given .0 .0} _ (c .before .before .before .before .before .before .before .before .before .before .before .before .before .before .before .cell-read .ensures) (search needs) in
+    let so = read-all {n = c .before .before .before .before .before .before .before .before .before .before .before .read .given .0 .0} _
+    (c .before .before .before .before .before .before .before .before .before .before .before .before .before .before .before .cell-read .ensures) (search needs) in
     let room = c .before .before .before .before .if2 .left in
     let size = c .before .before .raise .kept .0 in
-    both-all so refl (c .before .before .before .before .before .before .before .before .update-from .ensures .0) (c .before .before .before .before .before .if1 .left) (c .before .before .before .before .before .before .before .before .update-from .ensures .1) (c .before .before .raise .ensures) (omega arith)
+    both-all so refl (c .before .before .before .before .before .before .before .before .update-from .ensures .0) (c .before .before .before .before .before .if1 .left)
+    (c .before .before .before .before .before .before .before .before .update-from .ensures .1) (c .before .before .raise .ensures) (omega arith)
 
 pub both-once-spec : {M : Type 1} → statement M
 both-once-spec =

@@ -45,8 +45,11 @@ sort-requires c κs = search needs
 twice-requires : tie.Need-twice-requires
 twice-requires c κs =
     let told = c .before .before .before .before .before .before .before .before .before .file-once .ensures in
-    let some = c .before .before .before .before .before .before .if1 .left in
-    (once-readable told some, once-room told some (c .before .before .before .sort .ensures) (c .before .before .before .before .before .if2 .left), once-words told some (c .before .before .before .sort .ensures))
+    let some = c .before .before .before .before .before .before .if1 .left in (
+      once-readable told some,
+      once-room told some (c .before .before .before .sort .ensures) (c .before .before .before .before .before .if2 .left),
+      once-words told some (c .before .before .before .sort .ensures),
+    )
 
 same-length-3 : tie.Need-same-length-3
 same-length-3 c = search needs
@@ -58,7 +61,9 @@ same-length-4 : tie.Need-same-length-4
 same-length-4 c = search needs
 
 returns-5 : tie.Need-returns-5
-returns-5 c = update-all (c .before .before .before .before .before .before .before .before .before .before .before .before .file-once .ensures) (c .before .before .before .before .before .before .before .before .before .if1 .left) (c .before .before .before .before .before .before .sort .ensures) _ (c .before .before .twice .ensures) (c .if3 .left) (c .before .before .before .before .before .before .before .before .if2 .left)
+returns-5 c = update-all (c .before .before .before .before .before .before .before .before .before .before .before .before .file-once .ensures)
+    (c .before .before .before .before .before .before .before .before .before .if1 .left) (c .before .before .before .before .before .before .sort .ensures) _
+    (c .before .before .twice .ensures) (c .if3 .left) (c .before .before .before .before .before .before .before .before .if2 .left)
 
 pub update-once-spec : {M : Type 1} → statement M
 update-once-spec =

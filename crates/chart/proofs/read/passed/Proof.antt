@@ -22,7 +22,8 @@ wide-requires-2 c κs = search needs
 
 returns : tie.Need-returns
 returns c = passed-first _ _ _ _ _ _ (c .before .before .before .before .next-stage .ensures) (c .before .before .before .before .before .is-feature .ensures) _ _
-    (c .before .before .before .if1 .taken) (c .before .wide .ensures .0 ∙ c .before .before .levels-at .ensures .0) (c .wide2 .ensures .0 ∙ c .before .before .levels-at .ensures .1)
+    (c .before .before .before .if1 .taken) (c .before .wide .ensures .0 ∙ c .before .before .levels-at .ensures .0)
+    (c .wide2 .ensures .0 ∙ c .before .before .levels-at .ensures .1)
 
 returns-2 : tie.Need-returns-2
 returns-2 c = passed-later _ _ _ _ _ _ (c .before .next-stage .ensures) (c .before .before .is-feature .ensures) (c .if1 .left)

@@ -40,7 +40,8 @@ records-fault-requires c κs =
 
 returns-2 : tie.Need-returns-2
 returns-2 c =
-    read-records (c .before .before .before .before .before .before .before .before .described .result) _ (c .before .before .before .before .before .before .before .before .before .before .pre .2)
+    read-records (c .before .before .before .before .before .before .before .before .described .result) _
+    (c .before .before .before .before .before .before .before .before .before .before .pre .2)
     (c .before .before .before .before .before .before .before .before .described .ensures .0)
     (c .before .before .before .before .before .before .before .before .described .ensures .1) (c .before .before .before .before .before .before .if1 .left)
     (c .before .records-fault .ensures)

@@ -35,8 +35,10 @@ loop-less c = search needs
 
 loop-again : tie.Need-loop-again Inv-loop μ-loop
 loop-again c = (
-  plain-fits _ (c .before .before .before .before .before .pre .0) (c .before .before .before .loop .inv .1) (c .before .before .before .loop .inv .0) (c .before .is-text .ensures) (c .if1 .left),
-  plain-on _ (c .before .before .before .before .before .pre .0) (c .before .before .before .loop .inv .1) (c .before .before .before .loop .inv .0) (c .before .is-text .ensures) (c .if1 .left),
+  plain-fits _ (c .before .before .before .before .before .pre .0) (c .before .before .before .loop .inv .1) (c .before .before .before .loop .inv .0)
+      (c .before .is-text .ensures) (c .if1 .left),
+  plain-on _ (c .before .before .before .before .before .pre .0) (c .before .before .before .loop .inv .1) (c .before .before .before .loop .inv .0)
+      (c .before .is-text .ensures) (c .if1 .left),
 )
 
 pub plain-run-spec : {M : Type 1} → statement M

@@ -16,7 +16,11 @@ same-length : tie.Need-same-length
 same-length c = search needs
 
 returns : tie.Need-returns
-returns c = (c .before .before .before .before .before .before .judged .ensures, (c .before .before .clear .ensures) ∙ ap (λ (k : ℕ). replicate k 0) (c .before .before .before .before .before .before .judged .kept .1 .0))
+returns c = (
+  c .before .before .before .before .before .before .judged .ensures,
+  (c .before .before .clear .ensures) ∙ ap (λ (k : ℕ). replicate k 0)
+      (c .before .before .before .before .before .before .judged .kept .1 .0),
+)
 
 pub judge-spec : {M : Type 1} → statement M
 judge-spec = tie.close (tie.spec judged-requires clear-requires same-length returns)

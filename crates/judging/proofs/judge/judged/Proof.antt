@@ -31,8 +31,10 @@ same-length-2 c = search needs
 
 returns-2 : tie.Need-returns-2
 returns-2 c =
-    let so = read-all {n = c .before .before .before .before .before .before .read2 .given .0 .0} _ (c .before .before .before .before .before .before .before .before .before .before .cell-read .ensures) (search needs) in
-    judged-filed _ _ _ (c .before .before .before .before .before .before .before .before .before .before .cell-read .kept .1 .0) so (c .before .before .before .cell-verdict .ensures .0) (c .filed .ensures)
+    let so = read-all {n = c .before .before .before .before .before .before .read2 .given .0 .0} _
+    (c .before .before .before .before .before .before .before .before .before .before .cell-read .ensures) (search needs) in
+    judged-filed _ _ _ (c .before .before .before .before .before .before .before .before .before .before .cell-read .kept .1 .0) so
+    (c .before .before .before .cell-verdict .ensures .0) (c .filed .ensures)
 
 pub judged-spec : {M : Type 1} → statement M
 judged-spec =

@@ -20,8 +20,10 @@ cell-verdict-requires c κs = read-all _ (c .before .before .before .before .bef
 
 settled-requires : tie.Need-settled-requires
 settled-requires c κs =
-    let so = read-all {n = c .before .before .before .before .before .before .before .read2 .given .0 .0} _ (c .before .before .before .before .before .before .before .before .before .before .before .cell-read .ensures) (search needs) in
-    settling _ so (c .before .before .before .before .cell-verdict .kept .1 .1 .0) (c .before .before .before .before .cell-verdict .ensures .0) (c .before .before .before .before .cell-verdict .ensures .1)
+    let so = read-all {n = c .before .before .before .before .before .before .before .read2 .given .0 .0} _
+    (c .before .before .before .before .before .before .before .before .before .before .before .cell-read .ensures) (search needs) in
+    settling _ so (c .before .before .before .before .cell-verdict .kept .1 .1 .0) (c .before .before .before .before .cell-verdict .ensures .0)
+    (c .before .before .before .before .cell-verdict .ensures .1)
 
 same-length : tie.Need-same-length
 same-length c = search needs
@@ -36,7 +38,9 @@ same-length-3 : tie.Need-same-length-3
 same-length-3 c = search needs
 
 returns-2 : tie.Need-returns-2
-returns-2 c = admit-along _ _ ((c .before .before .before .before .before .before .before .cell-verdict .kept .1 .1 .0) ∙ (c .before .before .before .before .before .before .before .before .before .before .before .before .before .before .cell-read .kept .1 .0)) (c .before .before .settled .ensures)
+returns-2 c = admit-along _ _ ((c .before .before .before .before .before .before .before .cell-verdict .kept .1 .1 .0) ∙
+    (c .before .before .before .before .before .before .before .before .before .before .before .before .before .before .cell-read .kept .1 .0))
+    (c .before .before .settled .ensures)
 
 pub admitted-spec : {M : Type 1} → statement M
 admitted-spec =

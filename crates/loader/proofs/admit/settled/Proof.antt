@@ -12,7 +12,8 @@ returns : tie.Need-returns
 returns c = (search (needs, settled-filed), search (needs, settled-kept))
 
 held-into-requires : tie.Need-held-into-requires
-held-into-requires c κs = settled-ready (c .before .before .before .before .before .pre) (c .before .if1 .left) (λ i. omega (arith, c .before .before .before .before .shared-slice-known .given i))
+held-into-requires c κs = settled-ready (c .before .before .before .before .before .pre) (c .before .if1 .left)
+    (λ i. omega (arith, c .before .before .before .before .shared-slice-known .given i))
 
 same-length : tie.Need-same-length
 same-length c = search needs

@@ -24,7 +24,8 @@ answered-requires : tie.Need-answered-requires Inv-loop μ-loop
 answered-requires c κs = search needs
 
 returns : tie.Need-returns Inv-loop μ-loop
-returns c = opened-broken (c .before .before .before .before .loop .inv) (c .before .before .before .loop-test .taken) _ (c .before .before .good-end .ensures .0) _ _ (c .before .before .before .before .before .before .pre .1) (c .before .if1 .taken) (c .answered .ensures)
+returns c = opened-broken (c .before .before .before .before .loop .inv) (c .before .before .before .loop-test .taken) _ (c .before .before .good-end .ensures .0) _ _
+    (c .before .before .before .before .before .before .pre .1) (c .before .if1 .taken) (c .answered .ensures)
 
 add-k : tie.Need-add-k Inv-loop μ-loop
 add-k c = let below = c .before .before .before .loop .inv .below in let fits = c .before .before .before .loop .inv .fits in omega arith
@@ -33,7 +34,8 @@ loop-less : tie.Need-loop-less Inv-loop μ-loop
 loop-less c = omega (arith, opened-past (c .before .before .before .loop .inv) (c .before .before .loop-test .taken) _ (c .before .good-end .ensures .0) (c .if1 .left))
 
 loop-again : tie.Need-loop-again Inv-loop μ-loop
-loop-again c = opened-next (c .before .before .before .loop .inv) (c .before .before .loop-test .taken) _ (c .before .good-end .ensures .0) (c .if1 .left) (c .before .good-end .ensures .1)
+loop-again c = opened-next (c .before .before .before .loop .inv) (c .before .before .loop-test .taken) _ (c .before .good-end .ensures .0) (c .if1 .left)
+    (c .before .good-end .ensures .1)
 
 returns-2 : tie.Need-returns-2 Inv-loop μ-loop
 returns-2 c = opened-all _ (c .before .loop .inv) (c .loop-test .left) (c .before .before .before .pre .1)

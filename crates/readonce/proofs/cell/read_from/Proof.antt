@@ -18,7 +18,11 @@ enum-known-front-2 : tie.Need-enum-known-front-2
 enum-known-front-2 c = search needs
 
 read-rest-requires : tie.Need-read-rest-requires
-read-rest-requires c κs = (passed-over _ (c .before .before .before .before .before .before .before .before .before .before .before .before .pre) (c .before .before .before .before .before .before .before .before .file-once .ensures), sym (c .before .before .before .before .opened-from .ensures) ∙ (search needs))
+read-rest-requires c κs = (
+  passed-over _ (c .before .before .before .before .before .before .before .before .before .before .before .before .pre)
+      (c .before .before .before .before .before .before .before .before .file-once .ensures),
+  sym (c .before .before .before .before .opened-from .ensures) ∙ (search needs),
+)
 
 same-length : tie.Need-same-length
 same-length c = search needs
@@ -30,7 +34,8 @@ same-length-2 : tie.Need-same-length-2
 same-length-2 c = search needs
 
 returns-2 : tie.Need-returns-2
-returns-2 c = told-along (c .before .before .before .before .before .before .before .before .before .before .before .file-once .kept .1 .1 .1 .0) (c .before .before .read-rest .ensures)
+returns-2 c = told-along (c .before .before .before .before .before .before .before .before .before .before .before .file-once .kept .1 .1 .1 .0)
+    (c .before .before .read-rest .ensures)
 
 pub read-from-spec : {M : Type 1} → statement M
 read-from-spec =

@@ -27,13 +27,15 @@ same-length : tie.Need-same-length
 same-length c = search needs
 
 returns-2 : tie.Need-returns-2
-returns-2 c = told-filed _ _ (c .before .before .before .before .before .before .before .before .before .pre .1) _ _ _ (c .before .before .before .before .before .before .if1 .left) (c .before .before .before .before .rest-fault .ensures .0) (c .before .if2 .taken) (c .filed .ensures)
+returns-2 c = told-filed _ _ (c .before .before .before .before .before .before .before .before .before .pre .1) _ _ _
+    (c .before .before .before .before .before .before .if1 .left) (c .before .before .before .before .rest-fault .ensures .0) (c .before .if2 .taken) (c .filed .ensures)
 
 same-length-2 : tie.Need-same-length-2
 same-length-2 c = search needs
 
 returns-3 : tie.Need-returns-3
-returns-3 c = told-read _ _ (c .before .before .before .before .before .before .before .before .pre .1) _ _ (c .before .before .before .rest-fault .kept .1 .1 .1 .0) (c .before .before .before .before .before .if1 .left) (c .before .before .before .rest-fault .ensures .0) (c .if2 .left) (c .before .before .before .rest-fault .ensures .1)
+returns-3 c = told-read _ _ (c .before .before .before .before .before .before .before .before .pre .1) _ _ (c .before .before .before .rest-fault .kept .1 .1 .1 .0)
+    (c .before .before .before .before .before .if1 .left) (c .before .before .before .rest-fault .ensures .0) (c .if2 .left) (c .before .before .before .rest-fault .ensures .1)
 
 pub read-rest-spec : {M : Type 1} → statement M
 read-rest-spec =

@@ -11,7 +11,12 @@ same-length : tie.Need-same-length
 same-length c = search needs
 
 returns : tie.Need-returns
-returns c = (rest-is (c .before .before .before .before .before .before .before .pre) (c .before .before .before .before .if1 .taken) _ (c .before .before .passed-fault .ensures .0), rest-held (c .before .before .before .before .before .before .before .pre) (c .before .before .before .before .if1 .taken) _ (c .before .before .passed-fault .ensures .1))
+returns c = (
+  rest-is (c .before .before .before .before .before .before .before .pre) (c .before .before .before .before .if1 .taken) _
+      (c .before .before .passed-fault .ensures .0),
+  rest-held (c .before .before .before .before .before .before .before .pre)
+      (c .before .before .before .before .if1 .taken) _ (c .before .before .passed-fault .ensures .1),
+)
 
 cell-fault-from-requires : tie.Need-cell-fault-from-requires
 cell-fault-from-requires c κs = (rest-lent (c .before .before .before .before .pre), rest-read (c .before .before .before .before .pre))

@@ -30,14 +30,19 @@ slice-aggregate-records-once-2 : tie.Need-slice-aggregate-records-once-2
 slice-aggregate-records-once-2 c = search needs
 
 records-once-requires : tie.Need-records-once-requires
-records-once-requires c κs = before-records _ _ _ _ (c .before .before .before .before .before .before .before .before .before .before .pre) (c .before .before .before .before .before .before .before .described .ensures .1) (blank-upto _ (c .before .before .before .blank .ensures))
+records-once-requires c κs = before-records _ _ _ _ (c .before .before .before .before .before .before .before .before .before .before .pre)
+    (c .before .before .before .before .before .before .before .described .ensures .1) (blank-upto _ (c .before .before .before .blank .ensures))
 
 same-length : tie.Need-same-length
 same-length c = search needs
 
 returns-2 : tie.Need-returns-2
 returns-2 c =
-    file-told (c .before .before .before .before .before .before .before .before .before .before .before .described .result) _ (c .before .before .before .before .before .before .before .before .before .before .before .before .before .before .pre) (c .before .before .before .before .before .before .before .before .before .before .before .described .ensures .0) (c .before .before .before .before .before .before .before .before .before .before .before .described .ensures .1) (c .before .before .before .before .before .before .before .before .before .if1 .left)
+    file-told (c .before .before .before .before .before .before .before .before .before .before .before .described .result) _
+    (c .before .before .before .before .before .before .before .before .before .before .before .before .before .before .pre)
+    (c .before .before .before .before .before .before .before .before .before .before .before .described .ensures .0)
+    (c .before .before .before .before .before .before .before .before .before .before .before .described .ensures .1)
+    (c .before .before .before .before .before .before .before .before .before .if1 .left)
     (c .before .before .before .records-once .ensures)
 
 pub file-once-spec : {M : Type 1} → statement M

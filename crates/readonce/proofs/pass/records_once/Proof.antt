@@ -9,7 +9,8 @@ use Rattle.readonce.proofs.pass.records_once.Statement.{statement}
 use Rattle.readonce.proofs.pass.records_once.Tie as tie
 
 abbrev Inv-loop : tie.InvT-loop
-Inv-loop s start marks update table₀ area₀ first tally₀ st₀ at₀ k₀ table area tally st at k = (length table ≡ 65536) × (length area ≡ length area₀) × Passing update marks s area₀ table area tally k at st
+Inv-loop s start marks update table₀ area₀ first tally₀ st₀ at₀ k₀ table area tally st at k = (length table ≡ 65536) × (length area ≡ length area₀)
+    × Passing update marks s area₀ table area tally k at st
 
 abbrev μ-loop : tie.MeasureT-loop
 μ-loop s start marks update table₀ area₀ first tally₀ st₀ at₀ k₀ table area tally st at k = length s - at
@@ -21,16 +22,28 @@ no-tally-requires : tie.Need-no-tally-requires Inv-loop μ-loop
 no-tally-requires c κs = search needs
 
 loop-holds : tie.Need-loop-holds Inv-loop μ-loop
-loop-holds c = (c .before .before .before .before .before .before .pre .wide, refl, passing-start _ _ _ _ _ _ _ (c .before .before .before .before .before .before .pre) (c .no-tally .ensures))
+loop-holds c = (
+  c .before .before .before .before .before .before .pre .wide,
+  refl,
+  passing-start _ _ _ _ _ _ _ (c .before .before .before .before .before .before .pre)
+      (c .no-tally .ensures),
+)
 
 record-fine-requires : tie.Need-record-fine-requires Inv-loop μ-loop
-record-fine-requires c κs = (c .before .before .loop .inv .2 .framed .fits, c .before .before .before .before .before .before .before .before .before .pre .started .short, c .before .before .before .before .before .before .before .before .before .pre .twenty, c .before .before .loop .inv .0)
+record-fine-requires c κs = (
+  c .before .before .loop .inv .2 .framed .fits,
+  c .before .before .before .before .before .before .before .before .before .pre .started .short,
+  c .before .before .before .before .before .before .before .before .before .pre .twenty,
+  c .before .before .loop .inv .0,
+)
 
 found-requires : tie.Need-found-requires Inv-loop μ-loop
 found-requires c κs = search needs
 
 same-length : tie.Need-same-length Inv-loop μ-loop
-same-length c = (c .before .before .before .before .before .record-fine .kept .1 .1 .1 .1 .1 .1 .1 .0) ∙ (c .before .before .before .before .before .before .before .before .loop .inv .0) ∙ sym (c .before .before .before .before .before .before .before .before .before .before .before .before .before .before .before .pre .wide)
+same-length c = (c .before .before .before .before .before .record-fine .kept .1 .1 .1 .1 .1 .1 .1 .0) ∙
+    (c .before .before .before .before .before .before .before .before .loop .inv .0) ∙ sym
+    (c .before .before .before .before .before .before .before .before .before .before .before .before .before .before .before .pre .wide)
 
 same-length-2 : tie.Need-same-length-2 Inv-loop μ-loop
 same-length-2 c = search needs
@@ -45,17 +58,24 @@ keep-requires c κs =
     let some = c .before .if1 .left in
     let fits = so .framed .fits in
     let below = so .framed .below in
-    let short = c .before .before .before .before .before .before .before .before .before .before .before .before .before .before .before .pre .started .short in
-    (turn-id so _ told some, turn-known so _ told some _ (c .before .before .before .before .before .before .before .before .before .before .first-item .ensures .0), omega arith, omega arith)
+    let short = c .before .before .before .before .before .before .before .before .before .before .before .before .before .before .before .pre .started .short in (
+      turn-id so _ told some,
+      turn-known so _ told some _ (c .before .before .before .before .before .before .before .before .before .before .first-item .ensures .0),
+      omega arith,
+      omega arith,
+    )
 
 found-requires-2 : tie.Need-found-requires-2 Inv-loop μ-loop
 found-requires-2 c κs = search needs
 
 same-length-3 : tie.Need-same-length-3 Inv-loop μ-loop
-same-length-3 c = (c .before .before .before .before .before .before .before .before .before .before .record-fine .kept .1 .1 .1 .1 .1 .1 .1 .0) ∙ (c .before .before .before .before .before .before .before .before .before .before .before .before .before .loop .inv .0) ∙ sym (c .before .before .before .before .before .before .before .before .before .before .before .before .before .before .before .before .before .before .before .before .pre .wide)
+same-length-3 c = (c .before .before .before .before .before .before .before .before .before .before .record-fine .kept .1 .1 .1 .1 .1 .1 .1 .0) ∙
+    (c .before .before .before .before .before .before .before .before .before .before .before .before .before .loop .inv .0) ∙ sym
+    (c .before .before .before .before .before .before .before .before .before .before .before .before .before .before .before .before .before .before .before .before .pre .wide)
 
 same-length-4 : tie.Need-same-length-4 Inv-loop μ-loop
-same-length-4 c = (c .before .before .before .before .keep .kept .1 .1 .1 .1 .1 .0) ∙ (c .before .before .before .before .before .before .before .before .before .before .before .before .before .loop .inv .1)
+same-length-4 c = (c .before .before .before .before .keep .kept .1 .1 .1 .1 .1 .0) ∙
+    (c .before .before .before .before .before .before .before .before .before .before .before .before .before .loop .inv .1)
 
 returns-2 : tie.Need-returns-2 Inv-loop μ-loop
 returns-2 c = records-not (c .before .before .before .before .before .before .before .before .before .before .before .before .before .loop .inv .2) _ (c .found2 .ensures)
@@ -64,8 +84,14 @@ count-requires : tie.Need-count-requires Inv-loop μ-loop
 count-requires c κs =
     let so = c .before .before .before .before .before .before .before .before .before .before .before .before .loop .inv .2 in
     let told = c .before .before .before .before .before .before .before .before .before .record-fine .ensures in
-    let some = c .before .before .before .before .before .if1 .left in
-    (turn-few so _ told some (c .before .before .before .before .before .before .before .before .before .before .before .before .before .before .before .before .before .before .before .pre .started .short), turn-id so _ told some, turn-known so _ told some _ (c .before .before .before .before .before .before .before .before .before .before .before .before .before .before .first-item .ensures .0))
+    let some = c .before .before .before .before .before .if1 .left in (
+      turn-few so _ told some
+          (c .before .before .before .before .before .before .before .before .before .before .before .before .before .before .before .before .before .before .before .pre
+          .started .short),
+      turn-id so _ told some,
+      turn-known so _ told some _
+          (c .before .before .before .before .before .before .before .before .before .before .before .before .before .before .first-item .ensures .0),
+    )
 
 passed-requires : tie.Need-passed-requires Inv-loop μ-loop
 passed-requires c κs =
@@ -78,17 +104,30 @@ add-k : tie.Need-add-k Inv-loop μ-loop
 add-k c =
     let fits = c .before .before .before .before .before .before .before .before .before .before .before .before .before .before .loop .inv .2 .framed .fits in
     let below = c .before .before .before .before .before .before .before .before .before .before .before .before .before .before .loop .inv .2 .framed .below in
-    let short = c .before .before .before .before .before .before .before .before .before .before .before .before .before .before .before .before .before .before .before .before .before .pre .started .short in
+    let short = c .before .before .before .before .before .before .before .before .before .before .before .before .before .before .before .before .before .before .before
+    .before .before .pre .started .short in
     omega arith
 
 loop-less : tie.Need-loop-less Inv-loop μ-loop
-loop-less c = omega (arith, turn-past (c .before .before .before .before .before .before .before .before .before .before .before .before .before .before .loop .inv .2) _ (c .before .before .before .before .before .before .before .before .before .before .before .record-fine .ensures) (c .before .before .before .before .before .before .before .if1 .left))
+loop-less c = omega (
+  arith,
+  turn-past (c .before .before .before .before .before .before .before .before .before .before .before .before .before .before .loop .inv .2) _
+      (c .before .before .before .before .before .before .before .before .before .before .before .record-fine .ensures)
+      (c .before .before .before .before .before .before .before .if1 .left),
+)
 
 loop-again : tie.Need-loop-again Inv-loop μ-loop
 loop-again c = (
-  (c .before .before .before .before .before .before .before .before .before .before .before .record-fine .kept .1 .1 .1 .1 .1 .1 .1 .0) ∙ (c .before .before .before .before .before .before .before .before .before .before .before .before .before .before .loop .inv .0),
-  (c .before .before .before .before .before .keep .kept .1 .1 .1 .1 .1 .0) ∙ (c .before .before .before .before .before .before .before .before .before .before .before .before .before .before .loop .inv .1),
-  turn-on (c .before .before .before .before .before .before .before .before .before .before .before .before .before .before .loop .inv .2) _ (c .before .before .before .before .before .before .before .before .before .before .before .record-fine .ensures) (c .before .before .before .before .before .before .before .if1 .left) (c .before .before .before .before .before .before .before .before .before .before .before .before .before .loop-test .taken) _ (c .before .before .before .before .before .before .before .before .before .before .before .before .before .before .before .before .first-item .ensures .0) (c .before .before .before .before .before .keep .ensures)
+  (c .before .before .before .before .before .before .before .before .before .before .before .record-fine .kept .1 .1 .1 .1 .1 .1 .1 .0) ∙
+      (c .before .before .before .before .before .before .before .before .before .before .before .before .before .before .loop .inv .0),
+  (c .before .before .before .before .before .keep .kept .1 .1 .1 .1 .1 .0) ∙
+      (c .before .before .before .before .before .before .before .before .before .before .before .before .before .before .loop .inv .1),
+  turn-on (c .before .before .before .before .before .before .before .before .before .before .before .before .before .before .loop .inv .2) _
+      (c .before .before .before .before .before .before .before .before .before .before .before .record-fine .ensures)
+      (c .before .before .before .before .before .before .before .if1 .left)
+      (c .before .before .before .before .before .before .before .before .before .before .before .before .before .loop-test .taken) _
+      (c .before .before .before .before .before .before .before .before .before .before .before .before .before .before .before .before .first-item .ensures .0)
+      (c .before .before .before .before .before .keep .ensures)
       (c .before .before .if2 .left) (c .before .count .ensures) _ (c .passed .ensures),
 )
 

@@ -13,11 +13,13 @@ get1-requires c κs = let long = known-long (c .before .before .pre .1) (c .befo
 
 add-get2 : tie.Need-add-get2
 add-get2 c =
-    let long = feature-long _ _ _ _ (c .before .before .before .before .pre .1) (c .before .get1 .ensures) (c .if2 .taken) (c .before .before .before .before .pre .2 (c .before .before .if1 .left)) in
+    let long = feature-long _ _ _ _ (c .before .before .before .before .pre .1) (c .before .get1 .ensures) (c .if2 .taken)
+    (c .before .before .before .before .pre .2 (c .before .before .if1 .left)) in
     omega arith
 
 get2-requires : tie.Need-get2-requires
-get2-requires c κs = feature-long _ _ _ _ (c .before .before .before .before .pre .1) (c .before .get1 .ensures) (c .if2 .taken) (c .before .before .before .before .pre .2 (c .before .before .if1 .left))
+get2-requires c κs = feature-long _ _ _ _ (c .before .before .before .before .pre .1) (c .before .get1 .ensures) (c .if2 .taken)
+    (c .before .before .before .before .pre .2 (c .before .before .if1 .left))
 
 add-feature-requires : tie.Need-add-feature-requires
 add-feature-requires c κs = search needs

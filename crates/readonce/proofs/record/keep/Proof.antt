@@ -17,7 +17,12 @@ returns-2 : tie.Need-returns-2
 returns-2 c = search (needs, kept-not)
 
 word-at-requires : tie.Need-word-at-requires
-word-at-requires c κs = (search needs, known-long (c .before .before .before .before .before .pre .0) (c .before .before .before .before .before .pre .1 (c .before .before .if1 .left)), search needs)
+word-at-requires c κs = (
+  search needs,
+  known-long (c .before .before .before .before .before .pre .0)
+      (c .before .before .before .before .before .pre .1 (c .before .before .if1 .left)),
+  search needs,
+)
 
 put-requires : tie.Need-put-requires
 put-requires c κs = search needs
