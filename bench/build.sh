@@ -11,8 +11,8 @@ archive=${1:-$top/target/staticlib/libprobe.a}
 out=${BENCH_OUT:-$top/target/bench}
 strict='-std=c11 -Wall -Wextra -Wpedantic -Werror'
 
-# The programs, one a line: the folder and name of its file, and the crate whose archive it is linked with, or `alone` for one that is built for
-# this very machine with the sanitizers. Every other .c file of a folder is a part that any of them may use.
+# The programs, one a line: the folder and name of its file, and the crate whose archive it is linked with, or two as s57+probe; or `alone` for one that is built
+# for this very machine with the sanitizers; or `elsewhere` for one that bench/fuzz/run.sh builds. Every other .c file of a folder is a part that any of them may use.
 programs='
 make/make_harbour alone
 make/make_corrections alone
@@ -44,6 +44,10 @@ speed/speed_judge s57
 speed/speed_admit s57
 speed/speed_apply s57
 speed/instructions s57
+fuzz/replay s57+probe
+fuzz/seeds elsewhere
+fuzz/target elsewhere
+fuzz/choose elsewhere
 '
 
 # shellcheck source=compiler.sh
@@ -92,15 +96,25 @@ build_alone() {
     done
 }
 
+# The archives of crates joined by +, or nothing where one is missing.
+libraries_of() { # CRATES
+    found=
+    for crate in $(echo "$1" | tr + ' '); do
+        [ -f "$archives/lib$crate.a" ] || return 0
+        found="$found $archives/lib$crate.a"
+    done
+    echo "$found"
+}
+
 # shellcheck disable=SC2086
 build_linked() {
     compile "$out/linked" "$linked"
     missing=
-    for program in $(echo "$programs" | sed -e '/ alone$/d' -e 's/ /:/'); do
+    for program in $(echo "$programs" | sed -e '/ alone$/d' -e '/ elsewhere$/d' -e 's/ /:/'); do
         file=${program%:*}
-        library=$archives/lib${program#*:}.a
-        if [ -f "$library" ]; then
-            $linked "$file.c" "$out"/linked/*/*.o "$library" -o "$out/${file#*/}"
+        libraries=$(libraries_of "${program#*:}")
+        if [ -n "$libraries" ]; then
+            $linked "$file.c" "$out"/linked/*/*.o $libraries -o "$out/${file#*/}"
         else
             missing="$missing ${file#*/}"
         fi

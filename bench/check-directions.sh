@@ -21,6 +21,7 @@ allowed() { # FOLDER FILE
     'make shared/'* | 'make reader/'* | 'make generators/'*) ;;
     'tests shared/'* | 'tests reader/'* | 'tests tuned/'* | 'tests generators/'* | 'tests tests/'* | 'tests probe.h' | 'tests ../host/s57loader.h') ;;
     'speed shared/'* | 'speed reader/'* | 'speed tuned/'* | 'speed generators/'* | 'speed speed/'* | 'speed probe.h' | 'speed ../host/s57loader.h') ;;
+    'fuzz shared/'* | 'fuzz reader/'* | 'fuzz tuned/'* | 'fuzz generators/'* | 'fuzz tests/'* | 'fuzz fuzz/'* | 'fuzz probe.h' | 'fuzz ../host/s57loader.h') ;;
     *) return 1 ;;
     esac
 }

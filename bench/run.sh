@@ -20,6 +20,8 @@ case "$name $* " in
     [ -x "$emulator" ] || emulator=
     set -- "$@" -- ${emulator:+"$emulator"} "$tools/lib/ld-linux-x86-64.so.2" --library-path "$tools/lib" "$listing" ;;
 esac
+# replay without inputs replays those that are kept
+[ "$name $#" != 'replay 0' ] || set -- --all "$top"/bench/fuzz/corpus/*
 case $name in
 sanitize_* | compare_listing | make_* | write_held)
     # Built for this very machine. Some kernels place memory where the address sanitizer wants its own; a fixed layout avoids that.

@@ -1,0 +1,95 @@
+#!/bin/sh
+# Fuzzes the loader, guided by where the C readers go: each input runs through them and through the proved archives, and all that a host sees must be the same.
+# usage: bench/fuzz/run.sh SECONDS [keep]
+# SECONDS: by the clock; 0 fuzzes nothing and only looks at the corpus. `keep` puts the smallest inputs that go everywhere the run went in the place of
+# bench/fuzz/corpus. Wants target/staticlib/libs57.a and libprobe.a, as `rt staticlib` writes them, and, since those are x86-64 code, an x86-64 machine.
+# Everything goes to target/fuzz; found/ there stays from run to run, and the next run begins with it. An input that makes a side differ ends the run with 1, and is
+# left there as crash-*: `bench/run.sh replay FILE` shows it again.
+set -eu
+
+seconds=${1:?usage: bench/fuzz/run.sh SECONDS [keep]}
+keep=${2:-}
+bench=$(cd "$(dirname "$0")/.." && pwd -P)
+top=$(dirname "$bench")
+out=$top/target/fuzz
+archives=$top/target/staticlib
+corpus=$bench/fuzz/corpus
+strict='-std=c11 -Wall -Wextra -Wpedantic -Werror -g'
+
+[ "$(uname -m)" = x86_64 ] || { echo 'bench/fuzz/run.sh: the archives are x86-64 code; bench/run.sh replay replays the corpus on any machine' >&2; exit 2; }
+# shellcheck source=../compiler.sh
+. "$bench/compiler.sh"
+need clang clang libc6-dev
+[ -n "$(find /usr/lib/llvm-*/lib/clang -name 'libclang_rt.fuzzer-x86_64.a' 2>/dev/null)" ] || need no-such-command libclang-rt-dev
+need llvm-cov llvm
+
+# ---- build: the readers in four ways, all else once
+# shellcheck disable=SC2086
+# (flags are meant to be split)
+compile() { # OBJECTS FLAGS FILE..
+    objects=$out/objects/$1
+    flags=$2
+    shift 2
+    mkdir -p "$objects"
+    for file in "$@"; do
+        clang $strict $flags -c "$file" -o "$objects/$(echo "${file%.c}" | tr / _).o"
+    done
+}
+
+# shellcheck disable=SC2086
+link_program() { # PROGRAM FLAGS READERS [ARCHIVES..]
+    program=$1
+    flags=$2
+    readers=$out/objects/$3
+    shift 3
+    clang $strict -O2 $flags "fuzz/${program%%-*}.c" "$readers"/*.o "$out"/objects/parts/*.o "$@" -o "$out/$program"
+}
+
+cd "$bench"
+rm -rf "$out/start" "$out/small" "$out/objects"
+mkdir -p "$out/found" "$out/start" "$out/small" "$corpus"
+compile guided '-O2 -fsanitize=fuzzer-no-link' reader/*.c tuned/*.c
+compile sanitized '-O1 -fsanitize=fuzzer-no-link,address,undefined -fno-sanitize=pointer-overflow -fno-sanitize-recover=all' reader/*.c tuned/*.c
+compile counted '-O1 -fprofile-instr-generate -fcoverage-mapping' reader/*.c tuned/*.c
+compile chosen '-O2 -fsanitize-coverage=inline-8bit-counters' reader/*.c
+compile chosen -O2 tuned/*.c
+compile parts -O2 shared/*.c generators/*.c tests/areas.c tests/tally.c tests/ask_show.c fuzz/input.c fuzz/check.c \
+    fuzz/pieces.c fuzz/follow.c fuzz/mutate.c fuzz/less.c
+link_program target -fsanitize=fuzzer guided "$archives/libs57.a" "$archives/libprobe.a"
+link_program target-sanitized -fsanitize=fuzzer,address,undefined sanitized "$archives/libs57.a" "$archives/libprobe.a"
+link_program replay -fprofile-instr-generate counted "$archives/libs57.a" "$archives/libprobe.a"
+link_program choose '' chosen
+link_program seeds -fprofile-instr-generate counted
+
+# ---- what is covered: lines and branches of the readers, and answers; the replay itself says which codes are missing
+covered() { # NAME FOLDER
+    echo "---- $1: $(find "$2" -type f | wc -l) inputs, $(find "$2" -type f -exec cat {} + | wc -c) bytes"
+    LLVM_PROFILE_FILE=$out/$1.profraw "$out/replay" --all "$2"/* || true
+    llvm-profdata merge "$out/$1.profraw" -o "$out/$1.profdata"
+    for part in reader tuned; do
+        llvm-cov report "$out/replay" -instr-profile="$out/$1.profdata" "$bench/$part"/*.c | grep '^TOTAL' |
+            awk -v part="$part" '{ print part ": " $(NF - 5) - $(NF - 4) " of " $(NF - 5) " lines, " $(NF - 2) - $(NF - 1) " of " $(NF - 2) " branches" }'
+    done
+}
+
+# ---- run
+cd "$out"
+LLVM_PROFILE_FILE=$out/seeds.profraw ./seeds start
+if [ "$seconds" -gt 0 ]; then
+    nice -n 19 ./target -max_total_time="$seconds" -max_len=16384 -timeout=60 -reload=0 -print_final_stats=1 -artifact_prefix="$out/" \
+        found start "$corpus" >run.log 2>&1 || { grep -E 'DIFFERS|ERROR|Test unit' run.log; exit 1; }
+    grep -E '^#[0-9]+.*(INITED|DONE)|^Done|^stat::' run.log
+fi
+
+# ---- the readers under the sanitizers, over all that was found
+FUZZ_LARGEST=100000000 nice -n 19 ./target-sanitized -runs=0 -max_len=1000000 -timeout=600 found start "$corpus" >sanitized.log 2>&1 ||
+    { grep -A 20 -E 'ERROR|runtime error|DIFFERS' sanitized.log; exit 1; }
+
+# ---- few and small inputs that go everywhere
+find found start "$corpus" -type f -exec nice -n 19 ./choose small {} +
+covered start start
+covered small small
+if [ "$keep" = keep ]; then
+    rm -rf "$corpus"
+    cp -r small "$corpus"
+fi
