@@ -48,6 +48,7 @@ fuzz/replay s57+probe
 fuzz/seeds elsewhere
 fuzz/target elsewhere
 fuzz/choose elsewhere
+fuzz/watch elsewhere
 '
 
 # shellcheck source=compiler.sh

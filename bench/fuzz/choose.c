@@ -1,8 +1,12 @@
-/* Chooses few and small inputs that go wherever all of them go: to each place in the readers, and to each answer of each call. The readers are compiled so that
-   they count their places (clang's -fsanitize-coverage=inline-8bit-counters). From those chosen, parts that aren't needed for that are taken out.
+/* Chooses few and small inputs that go wherever all of them go: to each place in the plain reader, to each answer of each call, and to each block of the proved
+   code that FUZZ_BLOCKS in the environment lists. The reader is compiled so that it counts its places (clang's -fsanitize-coverage=inline-8bit-counters). From
+   those chosen, parts that aren't needed for that are taken out.
    usage: choose FOLDER INPUT.. */
+#include "../../host/s57loader.h"
+#include "../probe.h"
 #include "check.h"
 #include "less.h"
+#include "watch.h"
 
 #include <stdio.h>
 #include <stdlib.h>
@@ -22,21 +26,39 @@ void __sanitizer_cov_8bit_counters_init(uint8_t *first, uint8_t *last)
     last_counter = last_counter == NULL || last > last_counter ? last : last_counter;
 }
 
-static size_t features(void)
+static uint8_t met[MOST_BLOCKS];
+
+/* Those that are quickly found, and all: the blocks come behind them. */
+static size_t quick_features(void)
 {
     return (size_t)(last_counter - first_counter) + ANSWERS;
 }
 
+static size_t features(void)
+{
+    return quick_features() + watched_blocks();
+}
+
 /* One byte a feature: 1 where the input has it. */
-static void look(const struct input *input, uint8_t *has)
+static void look_quickly(const struct input *input, uint8_t *has)
 {
     size_t places = (size_t)(last_counter - first_counter);
     memset(first_counter, 0, places);
-    struct answer answer = check_input(input, &tuned_side, 1).answer;
+    struct answer answer = check_input(input, NULL, 0).answer;
     for (size_t i = 0; i < places; i++)
         has[i] = first_counter[i] > 0;
     memset(has + places, 0, ANSWERS);
     has[places + (call_of(input) * (CODE_ABSENT + 1) + answer.code) * 4 + answer.file] = 1;
+}
+
+static void look(const struct input *input, uint8_t *has)
+{
+    const struct side proved = {"the proved archive", {s57_judge, s57_admit, s57_apply}, {probe_show}};
+    look_quickly(input, has);
+    memset(met, 0, sizeof met);
+    watch_again();
+    check_input(input, &proved, 1);
+    memcpy(has + quick_features(), met, watched_blocks());
 }
 
 /* ---- choosing */
@@ -88,10 +110,10 @@ static void choose(struct candidate *candidates, size_t count, uint32_t *covered
 
 /* ---- less of each */
 
-/* Whether it still has all that only it brings. */
-static bool suffices(const struct candidate *candidate, const uint8_t *has, const uint32_t *covered)
+/* Whether it still has all that only it brings, of the first so many features. */
+static bool suffices(const struct candidate *candidate, const uint8_t *has, const uint32_t *covered, size_t count)
 {
-    for (size_t i = 0; i < features(); i++)
+    for (size_t i = 0; i < count; i++)
         if (candidate->has[i] > 0 && covered[i] == 1 && has[i] == 0)
             return false;
     return true;
@@ -113,9 +135,13 @@ static bool try_without(struct candidate *candidate, enum file file, size_t *ind
     uint8_t *has = grow(NULL, features(), 1);
     size_t before = input.file[file].length;
     bool there = drop_part(&input, file, *index), less = false;
-    if (there) {
+    if (there && input.file[file].length < before) {
+        look_quickly(&input, has);
+        less = suffices(candidate, has, covered, quick_features());
+    }
+    if (less) {
         look(&input, has);
-        less = input.file[file].length < before && suffices(candidate, has, covered);
+        less = suffices(candidate, has, covered, features());
     }
     if (less)
         replace(candidate, &input, has, covered);
@@ -174,9 +200,21 @@ static void load(struct candidate *candidate, const char *path)
     input_free(&input);
 }
 
+/* How many of these features all inputs together have. */
+static size_t met_of(const uint32_t *covered, size_t from, size_t to)
+{
+    size_t count = 0;
+    for (size_t i = from; i < to; i++)
+        count += covered[i] > 0;
+    return count;
+}
+
 int main(int words, char **word)
 {
     size_t count = words > 2 ? (size_t)words - 2 : 0, kept = 0, bytes = 0;
+    const char *list = getenv("FUZZ_BLOCKS");
+    if (list != NULL && !watch_open(list, met))
+        return 2;
     struct candidate *candidates = grow(NULL, count + 1, sizeof candidates[0]);
     uint32_t *covered = grow(NULL, features(), sizeof covered[0]);
     bool saved = true;
@@ -198,5 +236,6 @@ int main(int words, char **word)
             bytes += candidates[i].bytes.length;
         }
     printf("%zu of %zu inputs chosen, %zu bytes\n", kept, count, bytes);
+    printf("%zu of %zu blocks of the proved code\n", met_of(covered, quick_features(), features()), watched_blocks());
     return saved && count > 0 ? 0 : 1;
 }

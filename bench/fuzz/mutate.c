@@ -221,6 +221,23 @@ static void change_description(struct chart *const both[2], byte_changer *change
         describe_chart(both[0], random_one_in(random, 4), random);
 }
 
+/* Something more in the format list of a field of record 0, which stands behind its last 1F. */
+static void change_formats(struct chart *const both[2], byte_changer *change, struct random *random)
+{
+    static const char *const more[] = {"1", "2", "9", "33", "99", "(", ")", ",", "A", "b11,", "R(4),", "(2A),", "((((", "))))", "17(2b11),", "32A,", "(1", "0"};
+    (void)change;
+    if (both[0]->list.count == 0 || both[0]->list.record[0].count < 2)
+        return;
+    struct chart_record *first = &both[0]->list.record[0];
+    struct buffer *content = &first->field[random_between(random, 1, (uint32_t)first->count - 1)].content;
+    size_t formats = content->length;
+    while (formats > 0 && content->bytes[formats - 1] != UNIT_END)
+        formats--;
+    const char *text = more[random_below(random, sizeof more / sizeof more[0])];
+    size_t at = formats + random_below(random, (uint32_t)(content->length - formats + 1));
+    memcpy(buffer_open(content, at, strlen(text)), text, strlen(text));
+}
+
 /* ---- an input */
 
 /* Call, lengths and name; of the lengths mostly what suffices. */
@@ -255,7 +272,7 @@ static void change_chart(struct chart *const both[2], byte_changer *change, stru
 {
     static changer *const often[] = {change_content, change_content, change_content, change_number,  change_number,  change_number,  change_entries, change_entries,
                                      split_list,     change_fields,  change_fields,  change_records, change_records, change_pointer, change_pointer,
-                                     change_description};
+                                     change_description, change_formats};
     for (uint32_t times = 1 + random_below(random, 1 + random_below(random, 4)); times > 0; times--)
         often[random_below(random, sizeof often / sizeof often[0])](both, change, random);
 }

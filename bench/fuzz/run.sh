@@ -1,5 +1,5 @@
 #!/bin/sh
-# Fuzzes the loader, guided by where the C readers go: each input runs through them and through the proved archives, and all that a host sees must be the same.
+# Fuzzes the loader, guided by where the C readers and the proved code go: each input runs through all of them, and all that a host sees must be the same.
 # usage: bench/fuzz/run.sh SECONDS [keep]
 # SECONDS: by the clock; 0 fuzzes nothing and only looks at the corpus. `keep` puts the smallest inputs that go everywhere the run went in the place of
 # bench/fuzz/corpus. Wants target/staticlib/libs57.a and libprobe.a, as `rt staticlib` writes them, and, since those are x86-64 code, an x86-64 machine.
@@ -22,6 +22,7 @@ strict='-std=c11 -Wall -Wextra -Wpedantic -Werror -g'
 need clang clang libc6-dev
 [ -n "$(find /usr/lib/llvm-*/lib/clang -name 'libclang_rt.fuzzer-x86_64.a' 2>/dev/null)" ] || need no-such-command libclang-rt-dev
 need llvm-cov llvm
+need objdump binutils
 
 # ---- build: the readers in four ways, all else once
 # shellcheck disable=SC2086
@@ -42,7 +43,8 @@ link_program() { # PROGRAM FLAGS READERS [ARCHIVES..]
     flags=$2
     readers=$out/objects/$3
     shift 3
-    clang $strict -O2 $flags "fuzz/${program%%-*}.c" "$readers"/*.o "$out"/objects/parts/*.o "$@" -o "$out/$program"
+    clang $strict -O2 -no-pie $flags "fuzz/${program%%-*}.c" "$readers"/*.o "$out"/objects/parts/*.o "$@" -o "$out/$program"
+    fuzz/blocks.sh "$out/$program" >"$out/$program.blocks"
 }
 
 cd "$bench"
@@ -54,17 +56,17 @@ compile counted '-O1 -fprofile-instr-generate -fcoverage-mapping' reader/*.c tun
 compile chosen '-O2 -fsanitize-coverage=inline-8bit-counters' reader/*.c
 compile chosen -O2 tuned/*.c
 compile parts -O2 shared/*.c generators/*.c tests/areas.c tests/tally.c tests/ask_show.c fuzz/input.c fuzz/check.c \
-    fuzz/pieces.c fuzz/follow.c fuzz/mutate.c fuzz/less.c
+    fuzz/pieces.c fuzz/follow.c fuzz/mutate.c fuzz/less.c fuzz/watch.c
 link_program target -fsanitize=fuzzer guided "$archives/libs57.a" "$archives/libprobe.a"
 link_program target-sanitized -fsanitize=fuzzer,address,undefined sanitized "$archives/libs57.a" "$archives/libprobe.a"
 link_program replay -fprofile-instr-generate counted "$archives/libs57.a" "$archives/libprobe.a"
-link_program choose '' chosen
+link_program choose '' chosen "$archives/libs57.a" "$archives/libprobe.a"
 link_program seeds -fprofile-instr-generate counted
 
-# ---- what is covered: lines and branches of the readers, and answers; the replay itself says which codes are missing
-covered() { # NAME FOLDER
+# ---- what is covered: lines and branches of the readers, and answers; with --all the replay says which codes are missing
+covered() { # NAME FOLDER [--all]
     echo "---- $1: $(find "$2" -type f | wc -l) inputs, $(find "$2" -type f -exec cat {} + | wc -c) bytes"
-    LLVM_PROFILE_FILE=$out/$1.profraw "$out/replay" --all "$2"/* || true
+    LLVM_PROFILE_FILE=$out/$1.profraw "$out/replay" ${3:+"$3"} "$2"/* || true
     llvm-profdata merge "$out/$1.profraw" -o "$out/$1.profdata"
     for part in reader tuned; do
         llvm-cov report "$out/replay" -instr-profile="$out/$1.profdata" "$bench/$part"/*.c | grep '^TOTAL' |
@@ -76,19 +78,26 @@ covered() { # NAME FOLDER
 cd "$out"
 LLVM_PROFILE_FILE=$out/seeds.profraw ./seeds start
 if [ "$seconds" -gt 0 ]; then
-    nice -n 19 ./target -max_total_time="$seconds" -max_len=16384 -timeout=60 -reload=0 -print_final_stats=1 -artifact_prefix="$out/" \
-        found start "$corpus" >run.log 2>&1 || { grep -E 'DIFFERS|ERROR|Test unit' run.log; exit 1; }
-    grep -E '^#[0-9]+.*(INITED|DONE)|^Done|^stat::' run.log
+    # a shell of its own, so that its children's processor time is the fuzzer's
+    (
+        status=0
+        FUZZ_BLOCKS=$out/target.blocks nice -n 19 ./target -max_total_time="$seconds" -max_len=16384 -timeout=60 -reload=0 -print_final_stats=1 \
+            -artifact_prefix="$out/" found start "$corpus" >run.log 2>&1 || status=$?
+        times >times.log
+        exit "$status"
+    ) || { grep -E 'DIFFERS|ERROR|Test unit' run.log; exit 1; }
+    grep -E '^#[0-9]+.*(INITED|DONE)|^stat::' run.log
+    echo "processor time, user and system: $(sed -n 2p times.log)"
 fi
 
 # ---- the readers under the sanitizers, over all that was found
-FUZZ_LARGEST=100000000 nice -n 19 ./target-sanitized -runs=0 -max_len=1000000 -timeout=600 found start "$corpus" >sanitized.log 2>&1 ||
+FUZZ_LARGEST=100000000 ./target-sanitized -runs=0 -max_len=1000000 -timeout=600 found start "$corpus" >sanitized.log 2>&1 ||
     { grep -A 20 -E 'ERROR|runtime error|DIFFERS' sanitized.log; exit 1; }
 
 # ---- few and small inputs that go everywhere
-find found start "$corpus" -type f -exec nice -n 19 ./choose small {} +
+find found start "$corpus" -type f -print0 | FUZZ_BLOCKS=$out/choose.blocks xargs -0 -s 1500000 ./choose small
 covered start start
-covered small small
+covered small small --all
 if [ "$keep" = keep ]; then
     rm -rf "$corpus"
     cp -r small "$corpus"

@@ -9,7 +9,7 @@
 #include <stdlib.h>
 #include <string.h>
 
-enum { DEFAULT_SEEDS = 20000, MOST_SEEDS_KEPT = 4096, SMALL = 6000 };
+enum { DEFAULT_SEEDS = 8000, MOST_SEEDS_KEPT = 4096, SMALL = 6000 };
 
 /* ---- the smallest of each */
 

@@ -1,9 +1,11 @@
 /* What the fuzzer runs (libFuzzer): each input through the plain and the tuned reader, which are compiled so that it sees where they go, and through the
-   proved archive, which it doesn't see into. Where a side differs the program ends, and the fuzzer keeps the input. bench/fuzz/run.sh builds and runs it. */
+   proved archive, whose blocks are watched where FUZZ_BLOCKS in the environment names a list of them. Where a side differs the program ends, and the fuzzer keeps
+   the input. bench/fuzz/run.sh builds and runs it. */
 #include "../../host/s57loader.h"
 #include "../probe.h"
 #include "check.h"
 #include "mutate.h"
+#include "watch.h"
 
 #include <stdio.h>
 #include <stdlib.h>
@@ -17,11 +19,25 @@ enum { LARGEST = 262144 };
 enum { ANSWER_FILES = 4, RECORDS = 8 };
 __attribute__((section("__libfuzzer_extra_counters"))) uint8_t answered[CALLS][CODE_ABSENT + 1][ANSWER_FILES][RECORDS];
 
+/* A block of the proved code that no input came to before is another. */
+__attribute__((section("__libfuzzer_extra_counters"))) uint8_t met[MOST_BLOCKS];
+
 size_t LLVMFuzzerMutate(uint8_t *bytes, size_t length, size_t most);
+int LLVMFuzzerInitialize(int *words, char ***word);
 int LLVMFuzzerTestOneInput(const uint8_t *bytes, size_t length);
 size_t LLVMFuzzerCustomMutator(uint8_t *bytes, size_t length, size_t most, unsigned seed);
 size_t LLVMFuzzerCustomCrossOver(const uint8_t *first, size_t first_length, const uint8_t *second, size_t second_length, uint8_t *to, size_t most,
                                  unsigned seed);
+
+int LLVMFuzzerInitialize(int *words, char ***word)
+{
+    const char *list = getenv("FUZZ_BLOCKS");
+    (void)words;
+    (void)word;
+    if (list != NULL && !watch_open(list, met))
+        abort();
+    return 0;
+}
 
 static size_t largest(void)
 {

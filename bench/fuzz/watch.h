@@ -1,0 +1,20 @@
+/* Where the proved code goes, of an archive that is as it is: a breakpoint at the start of each of its blocks, which goes when it is met. So each costs its time
+   once, and then the code runs as ever. For x86-64 and Linux; bench/fuzz/run.sh lists the blocks' addresses, one a line in hexadecimal. */
+#ifndef BENCH_FUZZ_WATCH_H
+#define BENCH_FUZZ_WATCH_H
+
+#include <stdbool.h>
+#include <stddef.h>
+#include <stdint.h>
+
+/* How many blocks are watched at most. */
+enum { MOST_BLOCKS = 16384 };
+
+/* Reads the list and sets the breakpoints; each that is met makes its byte of `met` 1. False where that can't be done. */
+bool watch_open(const char *path, uint8_t *met);
+
+/* How many there are, and all set again. */
+size_t watched_blocks(void);
+void watch_again(void);
+
+#endif
