@@ -85,7 +85,10 @@ static void change_number(struct chart *const both[2], byte_changer *change, str
     if (field == NULL || field->content.length < width)
         return;
     uint8_t *at = field->content.bytes + random_below(random, (uint32_t)(field->content.length - width + 1));
-    set_number(at, width, telling_number(get_number(at, width), random));
+    /* most subfields of one byte have few values */
+    static const uint8_t few[] = {0, 1, 2, 3, 4, 255};
+    bool usual = width == 1 && random_one_in(random, 2);
+    set_number(at, width, usual ? few[random_below(random, sizeof few)] : telling_number(get_number(at, width), random));
 }
 
 /* An entry comes again, goes, or changes places with another one of its size. */
