@@ -6,7 +6,6 @@ use mathlib.Core.Path.{_≡_, refl, sym, _∙_}
 use native.Mathlib.Omega.{arith}
 use Rattle.octets.proofs.Tests.{both, told-yes}
 use Rattle.entries.specs.Rules.{allOf}
-use Rattle.table.specs.Table.{rowOf}
 use Rattle.attributes.specs.Attributes.{labelOf, isRemoval}
 use Rattle.fieldvalue.specs.Value.{isAttributes}
 use Rattle.items.specs.Lists.{entriesAt}

@@ -1,14 +1,14 @@
 -- A leader that is that of the held form: what the tests of its bytes tell, and that its record is copied whole. Assumes nothing.
 use Prim.Native.Nat.{ℕ, _+_, _-_, _≤_, _<_}
 use mathlib.Core.Bool.{Bool, true, false, not}
-use mathlib.Core.List.{List, [], _∷_, _++_, append-assoc}
+use mathlib.Core.List.{List, [], _∷_, _++_}
 use mathlib.Core.Path.{_≡_, refl, sym, ap, _∙_}
 use native.Mathlib.Omega.{arith}
 use lib.ListN.{length, take, drop}
 use lib.Dec.{eqb}
 use borrow.Author.Tests.{eqb-true, not-false}
-use Rattle.octets.specs.Number.{byteAt, numAt, bytesOf}
-use Rattle.octets.specs.Digits.{none, numberAt, digitsOf}
+use Rattle.octets.specs.Number.{byteAt, bytesOf}
+use Rattle.octets.specs.Digits.{none}
 use Rattle.octets.specs.Premises.{Number, Reads}
 use Rattle.octets.specs.Area.{Wrote}
 use Rattle.octets.proofs.AreaLaws.{wrote-as}
@@ -16,7 +16,7 @@ use Rattle.iso8211.specs.Leader.{sizeAt, baseAt}
 use Rattle.iso8211.specs.Field.{Headed}
 use Rattle.items.specs.Premises.{LaidOut}
 use Rattle.itemfields.proofs.BytesLaws.{num-bytes}
-use Rattle.asheld.specs.Held.{Sure, Held, Same, LeadTold, BackTold, FrontTold, longOf, baseOf, frontOf, wholeOf, heldBytes}
+use Rattle.asheld.specs.Held.{Sure, Same, LeadTold, BackTold, FrontTold, longOf, baseOf, frontOf, wholeOf, heldBytes}
 use Rattle.asheld.proofs.PartLaws.{join}
 use Rattle.asheld.proofs.DigitLaws.{digits-back}
 use Rattle.asheld.proofs.SizeLaws.{base-sure}

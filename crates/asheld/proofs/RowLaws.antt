@@ -1,13 +1,13 @@
 -- The rows of a directory whose digits are known to be such: how long and how far they go, and that they are written as they stand.
 -- Assumes nothing.
-use Prim.Native.Nat.{ℕ, zero, suc, _+_, _-_, _*_, _/_, _%_, _^_, _≤_, _<_, max}
-use mathlib.Core.List.{List, [], _∷_, _++_}
+use Prim.Native.Nat.{ℕ, zero, suc, _+_, _-_, _*_, _/_, _%_, _^_, _≤_, _<_}
+use mathlib.Core.List.{List, [], _∷_}
 use mathlib.Core.Path.{_≡_, refl, sym, ap, _∙_}
 use native.Mathlib.Nat.{add-assoc, add-zero, suc-mul, zero-mul, mul-le-mul-right, one-le-pow, le-trans}
 use native.Mathlib.Omega.{arith}
 use lib.ListN.{length, take, drop, getD}
 use Rattle.octets.specs.Number.{byteAt}
-use Rattle.octets.specs.Digits.{numberAt, digitsOf}
+use Rattle.octets.specs.Digits.{numberAt}
 use Rattle.iso8211.specs.Leader.{baseAt, lengthDigits, positionDigits}
 use Rattle.iso8211.specs.Directory.{tagAt, rowAt, rows, rowWidth, len, position}
 use Rattle.iso8211.specs.Field.{countAt, directoryAt, fieldAt}
@@ -15,7 +15,7 @@ use Rattle.iso8211.proofs.DirectoryLaws.{rows-row}
 use Rattle.iso8211.proofs.Promise.{directory-length}
 use Rattle.items.specs.Premises.{LaidOut}
 use Rattle.records.specs.Written.{tagBytes, rowBytes, rowsBytes, longest, farthest, lengthSize, positionSize}
-use Rattle.asheld.specs.Held.{Sure, LongRow, Narrow}
+use Rattle.asheld.specs.Held.{Sure, LongRow}
 use Rattle.asheld.proofs.PartLaws.{join, part-more}
 use Rattle.asheld.proofs.DigitLaws.{digits-back, number-below, number-high, fewest-is}
 

@@ -1,25 +1,25 @@
 -- What the tests of a record's bytes tell, one law for each way through the code. Assumes nothing.
 use Prim.Native.Nat.{ℕ, suc, _+_, _-_, _*_, _≤_, _<_}
 use mathlib.Core.Bool.{Bool, true, false, not}
-use mathlib.Core.List.{List, []}
+use mathlib.Core.List.{List}
 use mathlib.Core.Path.{_≡_, refl, sym, ap, _∙_}
 use native.Mathlib.Nat.{zero-mul, suc-mul, mul-le-mul-right}
 use native.Mathlib.Numerals.{add-one}
 use native.Mathlib.Omega.{arith}
-use lib.ListN.{length, getD}
+use lib.ListN.{length}
 use lib.Dec.{eqb}
 use borrow.Author.Tests.{eqb-true, not-false}
 use Rattle.octets.specs.Number.{byteAt}
 use Rattle.octets.specs.Digits.{numberAt, none}
-use Rattle.iso8211.specs.Leader.{baseAt, lengthDigits, positionDigits}
+use Rattle.iso8211.specs.Leader.{lengthDigits, positionDigits}
 use Rattle.iso8211.specs.Directory.{rowWidth, len, position}
-use Rattle.iso8211.specs.Field.{countAt, directoryAt, Headed}
+use Rattle.iso8211.specs.Field.{countAt, Headed}
 use Rattle.iso8211.specs.Premises.{HeadOf}
 use Rattle.iso8211.specs.declared.field.Head.{Head}
 use Rattle.items.specs.Premises.{LaidOut}
 use Rattle.itemrows.specs.Plain.{PlainTold}
-use Rattle.asheld.specs.Held.{Sure, LongRow, LongTold, Closed, ClosedTold, Narrow, NarrowTold, LastAt, LastEnd, Held, HeldTold, lastRow}
-use Rattle.asheld.proofs.RowLaws.{lengths-fewest, positions-fewest, row-sure, row-end, len-of, position-of, rows-room}
+use Rattle.asheld.specs.Held.{Sure, LongTold, Closed, ClosedTold, Narrow, NarrowTold, LastAt, LastEnd, Held, HeldTold, lastRow}
+use Rattle.asheld.proofs.RowLaws.{lengths-fewest, positions-fewest, row-sure, row-end, len-of, position-of}
 
 never : {A : Type 0} → false ≡ true → A
 never e = absurd (let z : _≡_ {A = ℕ} 0 1 = cc in omega arith)

@@ -1,9 +1,6 @@
 // Whether the bytes of a record are those of the held form, and how long it is.
 ghost use Prim.Native.Nat.{_+_, _-_, _*_, _≤_, _<_};
-ghost use mathlib.Core.Path.{_≡_};
 ghost use lib.ListN.{length};
-ghost use Rattle.octets.specs.Digits.{none};
-ghost use Rattle.iso8211.specs.Leader.{baseAt};
 ghost use Rattle.iso8211.specs.Premises.{HeadOf};
 ghost use Rattle.items.specs.Premises.{LaidOut};
 ghost use Rattle.asheld.specs.Held.{LongTold, ClosedTold, NarrowTold, LastAt, LastEnd, HeldTold};

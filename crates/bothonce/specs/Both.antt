@@ -12,7 +12,7 @@ use Rattle.reader.specs.Reader.{frontOf, cellFault, updateFault}
 use Rattle.reader.specs.Lent.{ComeIn, BothIn}
 use Rattle.reader.specs.declared.front.Front.the-variants.{Count}
 use Rattle.bothonce.specs.declared.both.Both.{Both}
-use Rattle.bothonce.specs.declared.both.Both.the-variants.{All, Not}
+use Rattle.bothonce.specs.declared.both.Both.the-variants.{All}
 
 -- an update of n records without any of the codes 1, 2 and 4 to 7, the words of its records at the front of the area
 pub record UpdateRead (s : List ℕ) (n : ℕ) (area : List ℕ) : Type 0 where

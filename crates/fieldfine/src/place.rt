@@ -1,10 +1,10 @@
 // A field by its place and its content together, for each form of field that ordinary records have: its
 // kind k, or START in its place where it isn't fine.
 ghost use Prim.Native.Nat.{_≤_};
-ghost use mathlib.Core.Bool.{cond, _&&_};
+ghost use mathlib.Core.Bool.{cond};
 ghost use mathlib.Core.Path.{_≡_};
-ghost use lib.ListN.{length, getD};
-ghost use lib.Dec.{leb, eqb};
+ghost use lib.ListN.{length};
+ghost use lib.Dec.{eqb};
 ghost use Rattle.fieldfine.specs.Told.{contentIn};
 ghost use Rattle.fieldfine.specs.Text.{Ended};
 ghost use Rattle.fieldfine.specs.Place.{listStands, SingleField, GroupsField, AttributesField, PointersField};

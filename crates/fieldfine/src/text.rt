@@ -4,7 +4,6 @@ ghost use Prim.Native.Nat.{_+_, _-_, _≤_};
 ghost use mathlib.Core.Bool.{Bool, true};
 ghost use mathlib.Core.Path.{_≡_};
 ghost use lib.ListN.{length};
-ghost use Rattle.octets.specs.Number.{byteAt};
 ghost use Rattle.fieldfine.specs.Told.{contentIn, AttributesTold, PointersTold};
 ghost use Rattle.fieldfine.specs.Text.{Ended, TextRun, AttributeTold, PointerTold};
 use headvalues::text::is_text;

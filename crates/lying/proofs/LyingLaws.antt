@@ -1,15 +1,14 @@
 -- Laws of the walk over the fields: a field has its place under its kind, and the other kinds keep theirs. Assumes nothing.
 use Prim.Native.Nat.{ℕ, _+_, _-_, _≤_, _<_}
-use mathlib.Core.List.{List, [], _++_, append-nil}
+use mathlib.Core.List.{List, _++_, append-nil}
 use mathlib.Core.Logic.{⊎-elim}
-use mathlib.Core.Path.{_≡_, refl, sym, ap, _∙_}
+use mathlib.Core.Path.{_≡_, sym, ap, _∙_}
 use native.Mathlib.Omega.{arith}
-use lib.ListN.{length, take, drop, getD, set, length-set, length-drop, replicate, length-replicate, getD-replicate}
+use lib.ListN.{length, take, drop, set, length-set, length-drop, replicate, length-replicate, getD-replicate}
 use lib.Seq.{getD-set-same, getD-set-other, length-take-le}
 use Rattle.octets.specs.Area.{Wrote}
 use Rattle.octets.proofs.AreaLaws.{wrote-as}
 use Rattle.octets.proofs.Cases.{eq-or-ne}
-use Rattle.iso8211.specs.Leader.{baseAt}
 use Rattle.iso8211.specs.Field.{countAt, fieldAt}
 use Rattle.iso8211.specs.Premises.{HeadOf, Due}
 use Rattle.iso8211.specs.declared.field.Head.{Head}

@@ -1,5 +1,5 @@
 -- Laws of a feature that the quick tests pass. Assumes nothing.
-use Prim.Native.Nat.{ℕ, _+_, _-_, _/_, _≤_, _<_}
+use Prim.Native.Nat.{ℕ, _+_, _-_, _/_, _≤_}
 use mathlib.Core.Bool.{Bool, true, false, not, cond, _&&_}
 use mathlib.Core.List.{List, []}
 use mathlib.Core.Path.{_≡_, refl, sym, ap, _∙_}
@@ -17,7 +17,7 @@ use Rattle.values.specs.Class.{isCollection}
 use Rattle.entries.specs.Entries.{entriesOf}
 use Rattle.entries.specs.Rules.{allOf}
 use Rattle.layout.specs.Layout.{shapeOf}
-use Rattle.items.specs.Lists.{listAt, entriesAt}
+use Rattle.items.specs.Lists.{entriesAt}
 use Rattle.items.specs.Identity.{idAt, rcnmAt, primAt, objlAt}
 use Rattle.items.specs.Item.{Item, itemAt}
 use Rattle.items.specs.Premises.{Identified}
@@ -25,15 +25,13 @@ use Rattle.items.proofs.IdentityLaws.{num-one}
 use Rattle.items.proofs.ItemLaws.{ffpt-said, fspt-said, feature-said}
 use Rattle.lookups.specs.LookupWords.{indexOf}
 use Rattle.vectorshape.specs.Shape.{spatialGood, spatialCount, featureGood, shapeGood, shapeCode}
-use Rattle.pointer.specs.Pointer.{namesCode, lnamsCode, pointerCode}
-use Rattle.pointer.specs.Premises.{heldFoid}
+use Rattle.pointer.specs.Pointer.{namesCode, pointerCode}
 use Rattle.ring.specs.Ring.{ringsGood, ringCode}
 use Rattle.ring.specs.Walk.{nodeAt, namedAnd}
-use Rattle.spans.specs.Spans.{SpanIn, SpanOf, restOf}
+use Rattle.spans.specs.Spans.{SpanIn, SpanOf}
 use Rattle.spans.specs.declared.Span.{Span}
 use Rattle.spans.proofs.TagLaws.{ffpt-tag}
 use Rattle.spans.proofs.StrideLaws.{rest-end, rest-count, fspt-lies}
-use Rattle.quickvectors.specs.Quick.{Faultless}
 use Rattle.quickvectors.proofs.CoordinateLaws.{never}
 use Rattle.quickfeatures.specs.Quick.{pointers, NamesTold, shapedBy, SpatialsTold, RelatedTold, Drawn}
 use Rattle.quickfeatures.specs.Trod.{areaSound, RingsTold}

@@ -1,7 +1,7 @@
 -- Laws of the walk over FSPT that are looked up: the rules of all are the rules of those left. Assumes nothing.
 use Prim.Native.Nat.{ℕ, _+_, _-_, _≤_, _<_}
-use mathlib.Core.Bool.{Bool, true, false, not, _&&_}
-use mathlib.Core.List.{List, [], _∷_}
+use mathlib.Core.Bool.{Bool, true, false, not}
+use mathlib.Core.List.{List}
 use mathlib.Core.Path.{_≡_, refl, sym, ap, _∙_}
 use native.Mathlib.Omega.{arith}
 use lib.ListN.{length, take, drop, length-take, length-drop}
@@ -9,7 +9,7 @@ use Rattle.octets.proofs.Tests.{told-yes}
 use Rattle.words.specs.Words.{wordsIn}
 use Rattle.entries.specs.Rules.{allOf}
 use Rattle.answers.specs.First.{firstBy}
-use Rattle.lookups.specs.Lookup.{nameIn, foundCode}
+use Rattle.lookups.specs.Lookup.{nameIn}
 use Rattle.lookups.specs.LookupWords.{indexOf}
 use Rattle.lookups.specs.declared.lookup.Found.{Found}
 use Rattle.lookups.specs.declared.lookup.Found.the-variants.{At, Nothing}

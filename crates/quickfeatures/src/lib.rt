@@ -2,7 +2,6 @@
 // gone through once, each judged, looked up where it is guessed, and, of an area, followed along its
 // ring; its LNAM are looked up where they are guessed. It promises one way only, as `quickvectors`
 // does.
-ghost use Prim.Native.Nat.{_≤_};
 ghost use mathlib.Core.Path.{_≡_};
 ghost use Rattle.items.specs.Identity.{idAt, rcnmAt};
 ghost use Rattle.items.specs.Item.{itemAt};

@@ -1,15 +1,14 @@
 -- Laws of the loop over coordinates: as long as none was beyond its limit, the rule of all entries is the rule of those left. Assumes nothing.
 use Prim.Native.Nat.{ℕ, suc, _+_, _-_, _*_, _/_, _%_, _≤_, _<_}
-use mathlib.Core.Bool.{Bool, true, false, not, _&&_, _||_}
+use mathlib.Core.Bool.{Bool, true, false, not, _||_}
 use mathlib.Core.List.{List}
 use mathlib.Core.Logic.{⊎-elim}
-use mathlib.Core.Path.{_≡_, refl, sym, ap, _∙_}
+use mathlib.Core.Path.{_≡_, refl, sym}
 use native.Mathlib.Nat.{mul-le-mul-left, mul-le-mul-right, zero-mul, mod-lt, div-add-mod'}
 use native.Mathlib.Omega.{arith}
 use lib.ListN.{length, take, drop, length-take, length-drop}
 use lib.Dec.{ltb, leb}
 use borrow.Author.Tests.{lt-ltb, le-ltb, le-leb, ltb-false}
-use Rattle.octets.specs.Number.{numAt}
 use Rattle.octets.specs.Premises.{Reads}
 use Rattle.octets.proofs.Cases.{le-or-lt}
 use Rattle.entries.specs.Entries.{entriesOf}

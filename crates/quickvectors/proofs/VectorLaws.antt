@@ -1,6 +1,6 @@
 -- Laws of a vector that the quick tests pass. Assumes nothing.
-use Prim.Native.Nat.{ℕ, _+_, _-_, _/_, _≤_, _<_}
-use mathlib.Core.Bool.{Bool, true, false, not, cond, _&&_, _||_}
+use Prim.Native.Nat.{ℕ, _+_, _-_, _/_, _≤_}
+use mathlib.Core.Bool.{Bool, true, false, not, cond}
 use mathlib.Core.List.{List, [], _∷_}
 use mathlib.Core.Logic.{_⊎_, inl, inr, ⊎-elim}
 use mathlib.Core.Path.{_≡_, refl, sym, ap, _∙_}
@@ -27,15 +27,13 @@ use Rattle.lookups.specs.LookupWords.{indexOf}
 use Rattle.lookups.specs.declared.lookup.Found.{Found}
 use Rattle.lookups.specs.declared.lookup.Found.the-variants.{At}
 use Rattle.lookups.proofs.LookupLaws.{code-at}
-use Rattle.vectorshape.specs.Shape.{pairGood, coordinatesGood, isolatedGood, connectedGood, endGood, addTopi, edgeGood, classGood, vectorGood, shapeGood, shapeCode}
+use Rattle.vectorshape.specs.Shape.{coordinatesGood, isolatedGood, connectedGood, endGood, addTopi, edgeGood, classGood, vectorGood, shapeGood, shapeCode}
 use Rattle.pointer.specs.Pointer.{namesCode, pointerCode}
-use Rattle.pointer.specs.Premises.{heldFoid}
 use Rattle.ring.specs.Ring.{ringCode}
-use Rattle.ring.specs.Walk.{nodeAt}
 use Rattle.spans.specs.Spans.{SpanIn, SpanOf, restOf, Lies}
 use Rattle.spans.specs.declared.Span.{Span}
 use Rattle.spans.proofs.StrideLaws.{rest-end, rest-more, rest-count, vrpt-lies, sg2d-lies, sg3d-lies}
-use Rattle.quickvectors.specs.Quick.{Faultless, Quick, ListTold, bytesIn, NodeTold, TwoEnds, PairedTold, HeldTold, EndsTold, EdgeTold}
+use Rattle.quickvectors.specs.Quick.{Faultless, Quick, ListTold, bytesIn, NodeTold, PairedTold, HeldTold, EndsTold, EdgeTold}
 use Rattle.quickvectors.proofs.CoordinateLaws.{never}
 
 -- ---- a no tells nothing

@@ -1,7 +1,7 @@
 -- Laws of the walk over the fields: a field brings its bytes to the list of its tag, and none to the others. Assumes nothing.
 use Prim.Native.Nat.{ℕ, _+_, _-_, _≤_, _<_}
 use mathlib.Core.Bool.{true, false}
-use mathlib.Core.List.{List, [], _++_, append-nil}
+use mathlib.Core.List.{List, _++_, append-nil}
 use mathlib.Core.Logic.{⊎-elim}
 use mathlib.Core.Path.{_≡_, refl, sym, ap, _∙_}
 use native.Mathlib.Omega.{arith}
@@ -19,13 +19,13 @@ use Rattle.table.specs.Table.{table, rowOf, kindOf, among, asNumber, first, VRI
 use Rattle.table.specs.Text.{bytes}
 use Rattle.layout.specs.Record.{kindAt, contentAt}
 use Rattle.layout.proofs.Promise.{full-first, full-vrid, full-frid, full-foid, content-length}
-use Rattle.items.specs.Lists.{partAt, joinFrom, listAt}
+use Rattle.items.specs.Lists.{joinFrom, listAt}
 use Rattle.items.specs.Identity.{idAt, rcnmAt}
 use Rattle.items.specs.Premises.{LaidOut, Identified, Featured}
 use Rattle.items.proofs.IdentityLaws.{num-one}
 use Rattle.items.proofs.ListsLaws.{part-yes, part-no, join-end, join-next, join-all, field-some, field-fits}
 use Rattle.items.proofs.CountLaws.{lent-is}
-use Rattle.spans.specs.Spans.{Tagged, Reached, FrontTold, span, spanWith, SpanIn, SpanTo, SpanOf}
+use Rattle.spans.specs.Spans.{Tagged, Reached, FrontTold, span, spanWith, SpanTo, SpanOf}
 use Rattle.spans.specs.declared.Span.{Span}
 use Rattle.spans.specs.declared.Front.the-variants.{Vector, Feature, Other}
 

@@ -1,6 +1,6 @@
 -- What a caller learns of a span: the entries of its list, one stride after the other. Assumes nothing.
 use Prim.Native.Nat.{ℕ, zero, suc, _+_, _-_, _/_, _≤_, _<_}
-use mathlib.Core.Bool.{true, false}
+use mathlib.Core.Bool.{false}
 use mathlib.Core.List.{List, [], _∷_}
 use mathlib.Core.Path.{_≡_, refl, sym, ap, _∙_}
 use native.Mathlib.Nat.{sub-zero}
@@ -13,7 +13,7 @@ use Rattle.entries.proofs.EntryLaws.{len-short, len-bare}
 use Rattle.entries.proofs.WalkLaws.{walk-end, walk-more}
 use Rattle.table.specs.Table.{rowOf, VRPT, SG2D, SG3D, FSPT}
 use Rattle.layout.specs.Layout.{shapeOf}
-use Rattle.items.specs.Lists.{listAt, entriesAt}
+use Rattle.items.specs.Lists.{entriesAt}
 use Rattle.items.proofs.KindLaws.{vrpt-fixed, sg2d-fixed, sg3d-fixed, fspt-fixed, vrpt-bare, sg2d-bare, sg3d-bare, fspt-bare}
 use Rattle.items.proofs.PartLaws.{bare-shape}
 use Rattle.items.proofs.CountLaws.{bare-count}

@@ -1,7 +1,7 @@
 -- A record whose bytes are those of the held form is its item's: its size, and what is written of it, as the code asks for it. Assumes nothing.
-use Prim.Native.Nat.{ℕ, suc, _+_, _-_, _*_, _≤_, _<_}
+use Prim.Native.Nat.{ℕ, suc, _+_, _-_, _≤_, _<_}
 use mathlib.Core.Bool.{Bool, true, false}
-use mathlib.Core.List.{List, [], _∷_, _++_}
+use mathlib.Core.List.{List, _++_}
 use mathlib.Core.Path.{_≡_, refl, sym, ap, _∙_}
 use native.Mathlib.Omega.{arith}
 use lib.ListN.{length, take, drop, length-append}
@@ -9,12 +9,12 @@ use Rattle.octets.specs.Number.{byteAt, bytesOf}
 use Rattle.octets.specs.Area.{Wrote}
 use Rattle.octets.proofs.AreaLaws.{wrote-as}
 use Rattle.octets.proofs.NumberLaws.{bytes-length}
-use Rattle.iso8211.specs.Leader.{sizeAt, baseAt, lengthDigits, positionDigits}
-use Rattle.iso8211.specs.Field.{countAt, directoryAt, fieldAt}
+use Rattle.iso8211.specs.Leader.{sizeAt, baseAt}
+use Rattle.iso8211.specs.Field.{directoryAt, fieldAt}
 use Rattle.iso8211.proofs.Promise.{directory-length}
 use Rattle.items.specs.Identity.{idAt}
 use Rattle.items.specs.Item.{itemAt}
-use Rattle.records.specs.Written.{bodyOf, rowsFor, baseFor, headOver, headBytes, recordBytes, sizeOf}
+use Rattle.records.specs.Written.{bodyOf, rowsFor, baseFor, headBytes, recordBytes, sizeOf}
 use Rattle.itemfields.specs.Fields.{itemPieces}
 use Rattle.itemrows.specs.Plain.{Writable, ItemSized}
 use Rattle.asheld.specs.Held.{Held, HeldTold, FrontTold, Same, heldBytes}

@@ -1,6 +1,5 @@
 -- By the first.
 use Rattle.octets.proofs.Tests.{chain}
-use borrow.Author.Needs.{needs}
 use Rattle.writing.proofs.all.both.Statement.{statement}
 use Rattle.writing.proofs.all.both.Tie as tie
 
