@@ -7,14 +7,20 @@ ghost use Rattle.iso8211.specs.Premises.{HeadOf};
 ghost use Rattle.asheld.specs.Held.{Sure};
 use iso8211::field::Head;
 use iso8211::record::digit_at;
-use octets::digits::get_digits;
+use octets::number::wide;
 
 // The decimal number in the n bytes from `at` on, which are known to be digits.
 pub fn sure_digits(s: &[u8], at: usize, n: usize) -> u32
     requires { ⌜ Sure (now s) at n ⌝ }
     ensures { λ r. ⌜ (r ≡ numberAt (now (s .entry)) at n) × (r < none) ⌝ }
 {
-    get_digits(s, at, n)
+    let mut led: u32 = 0;
+    let mut k: usize = 0;
+    while k < n {
+        led = led * 10 + (wide(s[at + k]) - 48);
+        k += 1;
+    }
+    led
 }
 
 // The head of the record at `at`.
