@@ -37,7 +37,7 @@ use Rattle.fieldfine.specs.Place.{FieldTold}
 use Rattle.recordfine.specs.declared.open.Open.{Open}
 use Rattle.recordfine.specs.declared.Fine.{Fine}
 use Rattle.octets.specs.Premises.{Number}
-use Rattle.recordfine.specs.Premises.{OpenAt, RowGood, RowTold, FieldsTold, IdentifiedBy}
+use Rattle.recordfine.specs.Premises.{OpenAt, RowGood, RowTold, FieldsTold, WholeTold, IdentifiedBy}
 use Rattle.recordfine.specs.Told.{FineTold}
 
 never : {A : Type 0} → false ≡ true → A
@@ -274,26 +274,31 @@ module _ {update : Bool} {stage : ℕ} {marks : List ℕ} {aall nall : ℕ} {s :
   due-most = row .within
 
 -- ---- the answer
+pub whole-not : (due size prev : ℕ) → WholeTold due size prev false
+whole-not due size prev = record { full = λ e. never e; last = λ e. never e }
+
+pub whole-so : (due size prev : ℕ) (r : Bool) → due ≡ size → r ≡ mayEnd prev → WholeTold due size prev r
+whole-so due size prev r all told = record { full = λ e. all; last = λ e. sym told ∙ e }
+
 pub fields-not : {update : Bool} {stage : ℕ} {marks : List ℕ} {aall nall : ℕ} {s : List ℕ} {at : ℕ} {before after : List ℕ}
     → FieldsTold update stage marks aall nall s at before after false
 fields-not = record { good = λ e. never e; laid = λ e. never e; valued = λ e. never e }
 
 pub fields-so : {update : Bool} {stage : ℕ} {marks : List ℕ} {aall nall : ℕ} {s : List ℕ} {at : ℕ} {before t : List ℕ} {i prev stamp due : ℕ} {h : Open} (r : Bool)
-    → Passed update stage marks aall nall s at (4 + h .lengths + h .positions) before t i prev stamp due → OpenAt s at h → h .body - 1 ≤ i → due ≡ h .end - h .body
-    → r ≡ mayEnd prev
-    → FieldsTold update stage marks aall nall s at before t r
+    → Passed update stage marks aall nall s at (4 + h .lengths + h .positions) before t i prev stamp due → OpenAt s at h → h .body - 1 ≤ i
+    → WholeTold due (h .end - h .body) prev r → FieldsTold update stage marks aall nall s at before t r
 unfolding inRow
-fields-so {update} {stage} {marks} {aall} {nall} {s} {at} {before} {t} {i} {prev} {stamp} {due} {h} r so o past all told =
+fields-so {update} {stage} {marks} {aall} {nall} {s} {at} {before} {t} {i} {prev} {stamp} {due} {h} r so o past told =
     let j = so .j in
     let low = row-past so o past in
     let stop = row-stop so o in
     let room = o .room in
     let end = o .ends in
-    let spans : due ≡ sizeAt s at - baseAt s at = let x = o .ends in let y = o .body in omega arith in
+    let spans : due ≡ h .end - h .body → due ≡ sizeAt s at - baseAt s at = λ (all : due ≡ h .end - h .body). let x = o .ends in let y = o .body in omega arith in
     let none-left : drop j (directoryAt s at) ≡ [] = drop-of-length-le (directoryAt s at) {i = j} (rw (directory-length s at) low) in
     record {
-      good = λ e. so .framing ∙ ap (λ (x : List (List ℕ)). inRow s (at + baseAt s at) (sizeAt s at - baseAt s at) x due) none-left ∙ eq-eqb _ _ spans;
-      laid = λ (e : r ≡ true). sym (end-good update stage marks s at j prev (countAt s at) refl (so .laid) low r told (rw e));
+      good = λ e. so .framing ∙ ap (λ (x : List (List ℕ)). inRow s (at + baseAt s at) (sizeAt s at - baseAt s at) x due) none-left ∙ eq-eqb _ _ (spans (told .full e));
+      laid = λ (e : r ≡ true). sym (end-good update stage marks s at j prev (countAt s at) refl (so .laid) low true (sym (told .last e)) refl);
       valued = λ e. valued-end (so .valued) low (omega arith);
     }
 

@@ -12,7 +12,7 @@ use Rattle.iso8211.specs.Directory.{rowWidth}
 use Rattle.iso8211.specs.Record.{recordGood, inRow, endOf}
 use Rattle.iso8211.specs.Field.{countAt, directoryAt}
 use Rattle.iso8211.specs.Premises.{FramedAt}
-use Rattle.layout.specs.Layout.{layoutFault}
+use Rattle.layout.specs.Layout.{mayEnd, layoutFault}
 use Rattle.layout.specs.Record.{kindAt}
 use Rattle.fieldvalue.specs.Judged.{RecordJudged}
 use Rattle.recordfine.specs.declared.open.Open.{Open}
@@ -55,6 +55,11 @@ pub record RowGood (s : List ℕ) (i l p body size due long : ℕ) : Type 0 wher
 
 pub record RowTold (s : List ℕ) (i l p body size due long : ℕ) : Type 0 where
   pub told : (long ≡ 0 → ⊥) → RowGood s i l p body size due long
+
+-- where r says yes, the fields fill the record, and the last may be the last
+pub record WholeTold (due size prev : ℕ) (r : Bool) : Type 0 where
+  pub full : r ≡ true → due ≡ size
+  pub last : r ≡ true → mayEnd prev ≡ true
 
 -- the fields of the record at `at`, whose leader is good, are fine
 pub record FieldsTold (update : Bool) (stage : ℕ) (marks : List ℕ) (aall nall : ℕ) (s : List ℕ) (at : ℕ) (before after : List ℕ) (r : Bool) : Type 0 where

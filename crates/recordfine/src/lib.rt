@@ -14,7 +14,7 @@ ghost use Rattle.table.specs.Table.{kindOf};
 ghost use Rattle.fieldfine.specs.Told.{contentIn};
 ghost use Rattle.fieldfine.specs.Place.{FieldTold};
 ghost use Rattle.recordfine.specs.Told.{FineTold};
-ghost use Rattle.recordfine.specs.Premises.{OpenAt, FieldsTold, IdentifiedBy};
+ghost use Rattle.recordfine.specs.Premises.{OpenAt, FieldsTold, WholeTold, IdentifiedBy};
 use crate::open::Open;
 use crate::open::opened;
 use crate::row::row_fine;
@@ -71,6 +71,16 @@ fn field_at(
     )
 }
 
+// Whether fields up to `due` are all of the `size` bytes, and one of kind `prev` may be the last.
+fn is_whole(due: usize, size: usize, prev: usize) -> bool
+    ensures { λ r. ⌜ WholeTold due size prev r ⌝ }
+{
+    if due != size {
+        return false;
+    }
+    may_end(prev)
+}
+
 // Whether the fields of the record at `at`, whose leader says h, are fine. A list of attributes has the
 // place of the row with which it begins as its stamp, which no list before it had.
 fn fields_fine(
@@ -125,10 +135,7 @@ fn fields_fine(
         due += long;
         i += 4 + l + p;
     }
-    if due != size {
-        return false;
-    }
-    may_end(prev)
+    is_whole(due, size, prev)
 }
 
 // The kind of an identifier field by its tag.

@@ -116,21 +116,15 @@ loop-again c = (
       (c .before .before .before .before .before .before .tag-at .ensures) (c .before .before .before .before .field-at .ensures) (c .before .if2 .left) (c .stamp-of .ensures),
 )
 
+is-whole-requires : tie.Need-is-whole-requires Inv-loop μ-loop
+is-whole-requires c κs = search needs
+
 same-length-3 : tie.Need-same-length-3 Inv-loop μ-loop
 same-length-3 c = search needs
 
 returns-3 : tie.Need-returns-3 Inv-loop μ-loop
-returns-3 c = fields-not
-
-may-end-requires : tie.Need-may-end-requires Inv-loop μ-loop
-may-end-requires c κs = search needs
-
-same-length-4 : tie.Need-same-length-4 Inv-loop μ-loop
-same-length-4 c = search needs
-
-returns-4 : tie.Need-returns-4 Inv-loop μ-loop
-returns-4 c = fields-so _ (c .before .before .before .loop .inv .2) (c .before .before .before .before .before .before .before .before .pre .0)
-    (c .before .before .loop-test .left) (c .before .if3 .left) (c .may-end .ensures)
+returns-3 c = fields-so _ (c .before .before .loop .inv .2) (c .before .before .before .before .before .before .before .pre .0) (c .before .loop-test .left)
+    (c .is-whole .ensures)
 
 pub fields-fine-spec : {M : Type 1} → statement M
 fields-fine-spec =
@@ -159,8 +153,6 @@ fields-fine-spec =
     add-i-4
     loop-less
     loop-again
+    is-whole-requires
     same-length-3
-    returns-3
-    may-end-requires
-    same-length-4
-    returns-4)
+    returns-3)
