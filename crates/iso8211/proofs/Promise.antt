@@ -207,20 +207,24 @@ module _ (s : List ℕ) (at size : ℕ) (row : inRow s (at + baseAt s at) size (
     gapless = field-next;
   }
 
--- each record with its fields
-pub record-in : (s : List ℕ) (n k at : ℕ) → frameOf s ≡ Records n → k < n → at ≡ recordAt s k → RecordIn s at
-record-in s n k at v h e =
-    let framed = framed-at s n k at v h e in
+-- a good record with its fields
+pub good-in : (first : Bool) (s : List ℕ) (at : ℕ) → recordGood first s at ≡ true → RecordIn s at
+good-in first s at good =
+    let framed = record-framed first s at good in
     let high = framed .high in
     let size = sizeAt s at - baseAt s at in
     let end : at + baseAt s at + size ≡ endOf s at = omega arith in
-    let row = record-row (eqb k 0) s at (rw e (good-at s n k v h)) in
+    let row = record-row first s at good in
     record {
       framed = framed;
       fields = λ (j : ℕ) (less : j < countAt s at). rw (← end) (field-in s at size row j less);
       front = field-first s at size row (framed .headed .some);
       gapless = field-next s at size row;
     }
+
+-- each record of a framed file
+pub record-in : (s : List ℕ) (n k at : ℕ) → frameOf s ≡ Records n → k < n → at ≡ recordAt s k → RecordIn s at
+record-in s n k at v h e = good-in (eqb k 0) s at (rw e (good-at s n k v h))
 
 -- the same by its directory alone
 pub fields-in : {s : List ℕ} {at : ℕ} → RecordIn s at → FieldsIn s at

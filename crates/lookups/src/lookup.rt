@@ -168,12 +168,15 @@ fn about(area: &[u8], from: usize, m: usize, w: u64, near: usize) -> usize
     find(area, from + low, n, w) - from
 }
 
-// The same as `has_word`. Before it halves all words it halves those about the index `near`, which
-// may be any number.
+// The same as `has_word`. Before it halves all words it tries the index `near`, which may be any number,
+// and halves the words about it.
 pub fn has_near(area: &[u8], from: usize, m: usize, w: u64, near: usize) -> bool
     requires { ⌜ (8 * (from + m) ≤ length (now area)) × Sorted (wordsIn (now area) from m) ⌝ }
     ensures { λ r. ⌜ r ≡ isIn w (wordsIn (now (area .entry)) from m) ⌝ }
 {
+    if is_there(area, from, m, w, near) {
+        return true;
+    }
     let place = about(area, from, m, w, near);
     if is_there(area, from, m, w, place) {
         return true;

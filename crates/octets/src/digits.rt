@@ -7,13 +7,13 @@ ghost use Rattle.octets.specs.Premises.{Number};
 ghost use Rattle.octets.specs.Area.{Wrote};
 use crate::number::put1;
 use crate::number::wide;
-use crate::widths::number_at;
 
 // "No number": more than nine digits can say.
 pub const NONE: u32 = 1000000000;
 
-// The decimal number in the n bytes from `at` on, digit by digit.
-fn each_digit(s: &[u8], at: usize, n: usize) -> u32
+// The decimal number in the n bytes from `at` on, or NONE where one of them is no digit. Small, so that the
+// compiler puts it into its callers, most of which know the width.
+pub fn get_digits(s: &[u8], at: usize, n: usize) -> u32
     requires { ⌜ (n ≤ 9) × (at + n ≤ length (now s)) ⌝ }
     ensures { λ r. ⌜ Number (now (s .entry)) at n r ⌝ }
 {
@@ -31,18 +31,6 @@ fn each_digit(s: &[u8], at: usize, n: usize) -> u32
         k += 1;
     }
     led
-}
-
-// The decimal number in the n bytes from `at` on, or NONE where one of them is no digit.
-pub fn get_digits(s: &[u8], at: usize, n: usize) -> u32
-    requires { ⌜ (n ≤ 9) × (at + n ≤ length (now s)) ⌝ }
-    ensures { λ r. ⌜ Number (now (s .entry)) at n r ⌝ }
-{
-    let r = number_at(s, at, n);
-    if r < NONE {
-        return r;
-    }
-    each_digit(s, at, n)
 }
 
 // The number v in w digits, with leading zeros, from `at` on; the answer is where they end. Written

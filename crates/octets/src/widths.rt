@@ -1,9 +1,11 @@
 // Decimal digits in the widths that leaders and directories mostly have, read without a loop. Told one
-// way: where the answer is NONE, nothing is promised.
+// way: where the answer is NONE, nothing is promised, but for `digits_at`.
 ghost use Prim.Native.Nat.{_+_, _≤_};
 ghost use lib.ListN.{length};
+ghost use Rattle.octets.specs.Premises.{Number};
 ghost use Rattle.octets.specs.Told.{DigitTold, NumberTold, FiveTold, JoinedTold};
 use crate::digits::NONE;
+use crate::digits::get_digits;
 use crate::number::wide;
 use std::num::wrapping_sub_u32;
 
@@ -90,4 +92,16 @@ pub fn number_at(s: &[u8], i: usize, n: usize) -> u32
         return three_digits(s, i);
     }
     other_digits(s, i, n)
+}
+
+// The same as `get_digits`, for widths that aren't known before.
+pub fn digits_at(s: &[u8], at: usize, n: usize) -> u32
+    requires { ⌜ (n ≤ 9) × (at + n ≤ length (now s)) ⌝ }
+    ensures { λ r. ⌜ Number (now (s .entry)) at n r ⌝ }
+{
+    let r = number_at(s, at, n);
+    if r < NONE {
+        return r;
+    }
+    get_digits(s, at, n)
 }

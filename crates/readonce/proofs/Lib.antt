@@ -1,5 +1,4 @@
 -- The laws of `readonce`.
-pub mod GoodLaws
 pub mod ItemLaws
 pub mod PassLaws
 pub mod CellLaws

@@ -11,6 +11,7 @@ use borrow.Author.Tests.{eqb-true, eqb-false, not-false}
 use Rattle.iso8211.specs.Premises.{RecordIn}
 use Rattle.iso8211.specs.File.{recordAt}
 use Rattle.iso8211.proofs.FileLaws.{end-past}
+use Rattle.iso8211.proofs.Promise.{good-in}
 use Rattle.attributes.specs.Premises.{Upto}
 use Rattle.declarations.specs.Described.{describedOf}
 use Rattle.declarations.specs.Premises.{marksOf}
@@ -41,7 +42,6 @@ use Rattle.recordfine.specs.Told.{FineTold}
 use Rattle.recordfine.specs.declared.Fine.{Fine}
 use Rattle.readonce.specs.Once.{Kept, Counted, noTally, foundAt, RecordsBefore, CameTo, RecordsRead, RecordsTold, FileTold}
 use Rattle.readonce.specs.declared.pass.Passed.{Passed}
-use Rattle.readonce.proofs.GoodLaws.{good-in}
 
 -- ---- which record is due: that of DSID is record 1, and from the first item on it is a vector or a feature
 pub record Staged (update : Bool) (k stage : ℕ) : Type 0 where
