@@ -20,6 +20,7 @@ use Rattle.items.specs.Lists.{entriesAt}
 use Rattle.items.specs.Identity.{idAt, rcnmAt}
 use Rattle.items.specs.Item.{Item, itemAt}
 use Rattle.items.specs.Premises.{Identified}
+use Rattle.names.specs.Premises.{Noted}
 use Rattle.items.proofs.IdentityLaws.{num-one}
 use Rattle.items.proofs.ItemLaws.{vrpt-said, sg2d-said, sg3d-said}
 use Rattle.lookups.specs.Lookup.{nameIn, foundCode}
@@ -32,8 +33,9 @@ use Rattle.pointer.specs.Pointer.{namesCode, pointerCode}
 use Rattle.ring.specs.Ring.{ringCode}
 use Rattle.spans.specs.Spans.{SpanIn, SpanOf, restOf, Lies}
 use Rattle.spans.specs.declared.Span.{Span}
+use Rattle.spans.specs.declared.Spans.{Spans}
 use Rattle.spans.proofs.StrideLaws.{rest-end, rest-more, rest-count, vrpt-lies, sg2d-lies, sg3d-lies}
-use Rattle.quickvectors.specs.Quick.{Faultless, Quick, ListTold, bytesIn, NodeTold, PairedTold, HeldTold, EndsTold, EdgeTold}
+use Rattle.quickvectors.specs.Quick.{Quick, Sound, SoundTold, VectorIn, NamesIn, ListTold, bytesIn, NodeTold, PairedTold, HeldTold, EndsTold, EdgeTold}
 use Rattle.quickvectors.proofs.CoordinateLaws.{never}
 
 -- ---- a no tells nothing
@@ -135,25 +137,25 @@ end-long s ends inside order size = let within = inside .within order in rw (len
 pub edge-mid : (s : List ℕ) (ends : Span) → SpanIn s ends → ends .from ≤ ends .to → ends .to - ends .from ≡ 18 → ends .from + 9 ≤ length s
 edge-mid s ends inside order size = let within = inside .within order in omega arith
 
--- ---- vector_quick
+-- ---- vector_lying
 pub id-room : (s : List ℕ) (at id : ℕ) → id ≡ idAt s at → Identified s at → id + 1 ≤ length s
 id-room s at id there known = let long = known .long in omega arith
 
 pub list-order : (comf size : ℕ) (s : List ℕ) (sp : Span) (p : Bool) → ListTold comf size s sp p → not p ≡ false → sp .from ≤ sp .to
 list-order comf size s sp p told pass = told .order (sure p pass)
 
-pub quick-no : (comf : ℕ) (work : List ℕ) (m v : ℕ) (i : Item) → Quick comf work m v i false
-quick-no comf work m v i = record { is = λ (e : false ≡ true). never e }
+pub sound-no : (comf : ℕ) (ws : List ℕ) (i : Item) → SoundTold comf ws i false
+sound-no comf ws i = record { is = λ (e : false ≡ true). never e }
 
 -- a vector has no Ring, and for Pointer its VRPT
 module _ (s : List ℕ) (at : ℕ) (vector : rcnmAt s at ≡ 100 → ⊥) where
-  vector-faultless : (comf : ℕ) (work : List ℕ) (m v : ℕ) → classGood (itemAt s at) ≡ true → coordinatesGood comf (itemAt s at) ≡ true
-      → namesCode (indexOf (wordsIn work 0 m)) (entriesAt s at VRPT) ≡ 0 → Faultless comf work m v (itemAt s at)
+  vector-sound : (comf : ℕ) (ws : List ℕ) → classGood (itemAt s at) ≡ true → coordinatesGood comf (itemAt s at) ≡ true
+      → namesCode (indexOf ws) (entriesAt s at VRPT) ≡ 0 → Sound comf ws (itemAt s at)
   unfolding shapeCode shapeGood vectorGood pointerCode ringCode
-  vector-faultless comf work m v class within named = record {
+  vector-sound comf ws class within named = record {
     shape = rw (ne-eqb (rcnmAt s at) 100 vector, class, within);
-    pointer = rw (ne-eqb (rcnmAt s at) 100 vector, vrpt-said s at) named;
-    ring = rw (ne-eqb (rcnmAt s at) 100 vector);
+    pointer = λ (object : ℕ → Bool). rw (ne-eqb (rcnmAt s at) 100 vector, vrpt-said s at) named;
+    ring = λ (node : ℕ → ℕ → ℕ). rw (ne-eqb (rcnmAt s at) 100 vector);
   }
 
   module _ (comf : ℕ) (ends pairs soundings : Span) (pointers : SpanOf s at 1448235092 ends) (flat : SpanOf s at 1397174852 pairs) (deep : SpanOf s at 1397175108 soundings)
@@ -175,7 +177,7 @@ module _ (s : List ℕ) (at : ℕ) (vector : rcnmAt s at ≡ 100 → ⊥) where
     deep-count : length (entriesAt s at SG3D) ≡ bytesIn soundings / 12
     deep-count = ap length (deep-lies .are) ∙ rest-count 12 s (soundings .from) (soundings .to) (deep-lies .within) (omega arith)
 
-    module _ (work : List ℕ) (m v : ℕ) (c : ℕ) (known : Identified s at) (id : ℕ) (there : id ≡ idAt s at) (class : Reads s id 1 c) where
+    module _ (work : List ℕ) (m : ℕ) (c : ℕ) (known : Identified s at) (id : ℕ) (there : id ≡ idAt s at) (class : Reads s id 1 c) where
       class-is : c ≡ rcnmAt s at
       unfolding rcnmAt
       class-is = class .is ∙ num-one s id ∙ ap (byteAt s) there
@@ -215,13 +217,13 @@ module _ (s : List ℕ) (at : ℕ) (vector : rcnmAt s at ≡ 100 → ⊥) where
           let sounded : leb 1 (length (entriesAt s at SG3D)) ≡ true = le-leb 1 (length (entriesAt s at SG3D)) (omega (arith, deep-count)) in
           rw (eq-eqb (rcnmAt s at) 110 (sym class-is ∙ is), vrpt-said s at, sg2d-said s at, sg3d-said s at, node-lists none, pairless, sounded)
 
-      pub quick-node : (r : Bool) → (c ≡ 130 → ⊥) → NodeTold c ends pairs soundings r → Quick comf work m v (itemAt s at) r
+      pub sound-node : (r : Bool) → (c ≡ 130 → ⊥) → NodeTold c ends pairs soundings r → SoundTold comf (wordsIn work 0 m) (itemAt s at) r
       unfolding namesCode
-      quick-node r node told = record {
+      sound-node r node told = record {
         is = λ (e : r ≡ true).
             let none = told .none e in
             let named : namesCode (indexOf (wordsIn work 0 m)) (entriesAt s at VRPT) ≡ 0 = rw (node-lists none) in
-            vector-faultless comf work m v
+            vector-sound comf (wordsIn work 0 m)
             (⊎-elim
             (λ (one : (bytesIn pairs ≡ 8) × (bytesIn soundings ≡ 0)). node-paired-good none node (one .0) (one .1))
             (λ (many : (c ≡ 110) × (bytesIn pairs ≡ 0) × (12 ≤ bytesIn soundings)). node-sounded-good none (many .0) (many .1) (many .2))
@@ -229,9 +231,9 @@ module _ (s : List ℕ) (at : ℕ) (vector : rcnmAt s at ≡ 100 → ⊥) where
             coordinates-good named;
       }
 
-      pub quick-edge : (r : Bool) → c ≡ 130 → soundings .from ≡ soundings .to → EdgeTold s ends work m r → Quick comf work m v (itemAt s at) r
+      pub sound-edge : (r : Bool) → c ≡ 130 → soundings .from ≡ soundings .to → EdgeTold s ends work m r → SoundTold comf (wordsIn work 0 m) (itemAt s at) r
       unfolding classGood edgeGood
-      quick-edge r edge none told = record {
+      sound-edge r edge none told = record {
         is = λ (e : r ≡ true).
             let l = vrpt-lies s at ends pointers (told .order e) in
             let two = told .is e in
@@ -241,5 +243,28 @@ module _ (s : List ℕ) (at : ℕ) (vector : rcnmAt s at ≡ 100 → ⊥) where
             let another : rcnmAt s at ≡ 120 → ⊥ = λ (x : rcnmAt s at ≡ 120). omega arith in
             let shaped : classGood (itemAt s at) ≡ true =
             rw (ne-eqb (rcnmAt s at) 110 other, ne-eqb (rcnmAt s at) 120 another, vrpt-said s at, sg3d-said s at, deepless, l .are, two .two, two .good, two .sum) in
-            vector-faultless comf work m v shaped coordinates-good (rw (l .are) (two .there));
+            vector-sound comf (wordsIn work 0 m) shaped coordinates-good (rw (l .are) (two .there));
       }
+
+-- ---- vector_quick
+pub quick-no : (comf : ℕ) (work : List ℕ) (m v : ℕ) (i : Item) → Quick comf work m v i false
+quick-no comf work m v i = record { is = λ (e : false ≡ true). never e }
+
+pub sound-quick : (comf : ℕ) (work : List ℕ) (m v : ℕ) (i : Item) (r : Bool) → SoundTold comf (wordsIn work 0 m) i r → Quick comf work m v i r
+sound-quick comf work m v i r told = record {
+  is = λ (e : r ≡ true). let sound = told .is e in record { shape = sound .shape; pointer = sound .pointer _; ring = sound .ring _ };
+}
+
+pub noted-names : {work : List ℕ} {m v : ℕ} → Noted work m v → NamesIn work m
+noted-names noted = record { room = let room = noted .room in omega arith; order = noted .order }
+
+pub vector-in : (s : List ℕ) (at id : ℕ) (sp : Spans) → Identified s at → id ≡ idAt s at → (rcnmAt s at ≡ 100 → ⊥) → SpanOf s at 1448235092 (sp .one)
+    → SpanOf s at 1397174852 (sp .two) → SpanOf s at 1397175108 (sp .three) → VectorIn s at id sp
+vector-in s at id sp known there vector ends pairs soundings = record {
+  known = known;
+  there = there;
+  vector = vector;
+  ends = ends;
+  pairs = pairs;
+  soundings = soundings;
+}

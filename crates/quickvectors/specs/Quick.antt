@@ -1,13 +1,16 @@
 -- What the quick tests tell, each one way: where one says yes. It serves the proofs, and nothing here need be believed. Assumes nothing.
-use Prim.Native.Nat.{ℕ, _+_, _-_, _≤_}
+use Prim.Native.Nat.{ℕ, _+_, _-_, _*_, _≤_}
 use mathlib.Core.Bool.{Bool, true, false}
 use mathlib.Core.List.{List, [], _∷_}
 use mathlib.Core.Logic.{_⊎_}
 use mathlib.Core.Path.{_≡_}
 use lib.ListN.{length}
 use Rattle.words.specs.Words.{wordsIn}
+use Rattle.words.specs.Order.{Sorted}
 use Rattle.entries.specs.Entries.{entriesOf}
 use Rattle.entries.specs.Rules.{allOf, through}
+use Rattle.items.specs.Identity.{idAt, rcnmAt}
+use Rattle.items.specs.Premises.{Identified}
 use Rattle.items.specs.Item.{Item}
 use Rattle.lookups.specs.Lookup.{nameIn, foundCode}
 use Rattle.lookups.specs.LookupWords.{indexOf}
@@ -16,8 +19,9 @@ use Rattle.pointer.specs.Pointer.{namesCode, pointerCode}
 use Rattle.pointer.specs.Premises.{heldFoid}
 use Rattle.ring.specs.Ring.{ringCode}
 use Rattle.ring.specs.Walk.{nodeAt}
-use Rattle.spans.specs.Spans.{restOf}
+use Rattle.spans.specs.Spans.{SpanOf, restOf}
 use Rattle.spans.specs.declared.Span.{Span}
+use Rattle.spans.specs.declared.Spans.{Spans}
 
 -- an item in which Shape, Pointer and Ring find no fault, by the words and notes of m items, of which v are vectors
 pub record Faultless (comf : ℕ) (work : List ℕ) (m v : ℕ) (i : Item) : Type 0 where
@@ -28,6 +32,29 @@ pub record Faultless (comf : ℕ) (work : List ℕ) (m v : ℕ) (i : Item) : Typ
 -- where r says yes, the item is one
 pub record Quick (comf : ℕ) (work : List ℕ) (m v : ℕ) (i : Item) (r : Bool) : Type 0 where
   pub is : r ≡ true → Faultless comf work m v i
+
+-- the same of a vector, for which neither FOIDs nor the ends of edges are asked: ws are the words of all items
+pub record Sound (comf : ℕ) (ws : List ℕ) (i : Item) : Type 0 where
+  pub shape : shapeCode comf i ≡ 0
+  pub pointer : (object : ℕ → Bool) → pointerCode (indexOf ws) object i ≡ 0
+  pub ring : (node : ℕ → ℕ → ℕ) → ringCode node i ≡ 0
+
+pub record SoundTold (comf : ℕ) (ws : List ℕ) (i : Item) (r : Bool) : Type 0 where
+  pub is : r ≡ true → Sound comf ws i
+
+-- a vector whose identifier field starts at `id`, and whose three lists lie in these spans
+pub record VectorIn (s : List ℕ) (at id : ℕ) (sp : Spans) : Type 0 where
+  pub known : Identified s at
+  pub there : id ≡ idAt s at
+  pub vector : rcnmAt s at ≡ 100 → ⊥
+  pub ends : SpanOf s at 1448235092 (sp .one)
+  pub pairs : SpanOf s at 1397174852 (sp .two)
+  pub soundings : SpanOf s at 1397175108 (sp .three)
+
+-- the words of m items in order, at the front of the work area
+pub record NamesIn (work : List ℕ) (m : ℕ) : Type 0 where
+  pub room : 8 * m ≤ length work
+  pub order : Sorted (wordsIn work 0 m)
 
 -- ---- coordinates: where r says no, none is beyond its limit
 pub record BeyondTold (u limit : ℕ) (r : Bool) : Type 0 where

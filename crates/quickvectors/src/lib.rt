@@ -11,7 +11,8 @@ ghost use Rattle.items.specs.Item.{itemAt};
 ghost use Rattle.items.specs.Premises.{Identified};
 ghost use Rattle.names.specs.Premises.{Noted};
 ghost use Rattle.spans.specs.Spans.{Reached, SpanIn};
-ghost use Rattle.quickvectors.specs.Quick.{NodeTold, PairedTold, HeldTold, EndsTold, EdgeTold, Quick};
+ghost use Rattle.words.specs.Words.{wordsIn};
+ghost use Rattle.quickvectors.specs.Quick.{NodeTold, PairedTold, HeldTold, EndsTold, EdgeTold, Quick, VectorIn, NamesIn, SoundTold};
 use coordinates::list_within;
 use iso8211::field::Head;
 use lookups::lookup::Found;
@@ -19,6 +20,7 @@ use lookups::lookup::index_near;
 use lookups::lookup::name_in;
 use octets::number::get1;
 use spans::Span;
+use spans::Spans;
 use spans::spans_of;
 use table::sizes;
 use table::tags;
@@ -66,8 +68,8 @@ fn ends_shaped(a: &[u8], b: &[u8]) -> bool
 
 // Whether the node that a VRPT names is there. `start` is where the words of connected nodes may
 // begin.
-fn is_held(e: &[u8], work: &[u8], m: usize, v: usize, start: usize) -> bool
-    requires { ⌜ (9 ≤ length (now e)) × Noted (now work) m v ⌝ }
+fn is_held(e: &[u8], work: &[u8], m: usize, start: usize) -> bool
+    requires { ⌜ (9 ≤ length (now e)) × NamesIn (now work) m ⌝ }
     ensures { λ r. ⌜ HeldTold (now (e .entry)) (now (work .entry)) m r ⌝ }
 {
     let Found::At(_node) = index_near(work, 0, m, name_in(e), m, start) else {
@@ -77,22 +79,22 @@ fn is_held(e: &[u8], work: &[u8], m: usize, v: usize, start: usize) -> bool
 }
 
 // Whether both hold of the two pointers of an edge.
-fn ends_held(a: &[u8], b: &[u8], work: &[u8], m: usize, v: usize, start: usize) -> bool
-    requires { ⌜ (9 ≤ length (now a)) × (9 ≤ length (now b)) × Noted (now work) m v ⌝ }
+fn ends_held(a: &[u8], b: &[u8], work: &[u8], m: usize, start: usize) -> bool
+    requires { ⌜ (9 ≤ length (now a)) × (9 ≤ length (now b)) × NamesIn (now work) m ⌝ }
     ensures { λ r. ⌜ EndsTold (now (a .entry)) (now (b .entry)) (now (work .entry)) m r ⌝ }
 {
     if !ends_shaped(a, b) {
         return false;
     }
-    if !is_held(a, work, m, v, start) {
+    if !is_held(a, work, m, start) {
         return false;
     }
-    is_held(b, work, m, v, start)
+    is_held(b, work, m, start)
 }
 
 // Whether an edge has two pointers, to its begin and to its end, which are there.
-fn edge_shaped(s: &[u8], ends: Span, work: &[u8], m: usize, v: usize, start: usize) -> bool
-    requires { ⌜ SpanIn (now s) ends × Noted (now work) m v ⌝ }
+fn edge_shaped(s: &[u8], ends: Span, work: &[u8], m: usize, start: usize) -> bool
+    requires { ⌜ SpanIn (now s) ends × NamesIn (now work) m ⌝ }
     ensures { λ r. ⌜ EdgeTold (now (s .entry)) ends (now (work .entry)) m r ⌝ }
 {
     let from = ends.from;
@@ -104,26 +106,24 @@ fn edge_shaped(s: &[u8], ends: Span, work: &[u8], m: usize, v: usize, start: usi
         return false;
     }
     let mid = from + sizes::VRPT;
-    ends_held(&s[from..mid], &s[mid..to], work, m, v, start)
+    ends_held(&s[from..mid], &s[mid..to], work, m, start)
 }
 
-// Whether the vector at `at` has no fault: its identifier field starts at `id`, field 2 at `due`.
-pub fn vector_quick(
+// Whether the vector at `at` has no fault: its identifier field starts at `id`, and its pointers, pairs
+// and soundings lie in these spans.
+pub fn vector_lying(
     s: &[u8],
     at: usize,
-    h: Head,
     id: usize,
-    due: usize,
+    sp: Spans,
     comf: u32,
     work: &[u8],
     m: usize,
-    v: usize,
     start: usize,
 ) -> bool
-    requires { ⌜ Reached (now s) at h 2 due × Identified (now s) at × (id ≡ idAt (now s) at) × (rcnmAt (now s) at ≡ 100 → ⊥) × Noted (now work) m v × (comf ≤ mostComf) ⌝ }
-    ensures { λ r. ⌜ Quick comf (now (work .entry)) m v (itemAt (now (s .entry)) at) r ⌝ }
+    requires { ⌜ VectorIn (now s) at id sp × NamesIn (now work) m × (comf ≤ mostComf) ⌝ }
+    ensures { λ r. ⌜ SoundTold comf (wordsIn (now (work .entry)) 0 m) (itemAt (now (s .entry)) at) r ⌝ }
 {
-    let sp = spans_of(s, at, h, 2, due, tags::VRPT, tags::SG2D, tags::SG3D);
     let ends = sp.one;
     let pairs = sp.two;
     let soundings = sp.three;
@@ -140,5 +140,25 @@ pub fn vector_quick(
     if soundings.from != soundings.to {
         return false;
     }
-    edge_shaped(s, ends, work, m, v, start)
+    edge_shaped(s, ends, work, m, start)
+}
+
+// The same where its lists are still to be found: field 2 starts at `due`.
+pub fn vector_quick(
+    s: &[u8],
+    at: usize,
+    h: Head,
+    id: usize,
+    due: usize,
+    comf: u32,
+    work: &[u8],
+    m: usize,
+    v: usize,
+    start: usize,
+) -> bool
+    requires { ⌜ Reached (now s) at h 2 due × Identified (now s) at × (id ≡ idAt (now s) at) × (rcnmAt (now s) at ≡ 100 → ⊥) × Noted (now work) m v × (comf ≤ mostComf) ⌝ }
+    ensures { λ r. ⌜ Quick comf (now (work .entry)) m v (itemAt (now (s .entry)) at) r ⌝ }
+{
+    let sp = spans_of(s, at, h, 2, due, tags::VRPT, tags::SG2D, tags::SG3D);
+    vector_lying(s, at, id, sp, comf, work, m, start)
 }

@@ -6,3 +6,4 @@ pub mod BytesLaws
 pub mod ReachLaws
 pub mod TopologyLaws
 pub mod QuickLaws
+pub mod SeenLaws

@@ -1,10 +1,11 @@
 -- The notes beside the name words in the work area, from which pointers and rings are judged. They serve the proofs, and nothing here need be
 -- believed. Assumes nothing.
 use Prim.Native.Nat.{ℕ, _+_, _-_, _*_, _≤_, _<_}
-use mathlib.Core.Bool.{cond}
+use mathlib.Core.Bool.{Bool, true, cond}
 use mathlib.Core.List.{List, [], _∷_}
+use mathlib.Core.Logic.{_⊎_}
 use mathlib.Core.Path.{_≡_}
-use lib.ListN.{length, take, drop}
+use lib.ListN.{length, getD, take, drop}
 use lib.Dec.{eqb}
 use Rattle.table.specs.Table.{VRPT}
 use Rattle.words.specs.Words.{wordsIn}
@@ -22,6 +23,8 @@ use Rattle.answers.specs.Answer.{refusal, fine}
 use Rattle.answers.specs.declared.refusal.Refusal.{Refusal}
 use Rattle.names.specs.Premises.{AllStand, Noted}
 use Rattle.ring.specs.Walk.{endsWith, nodeAt}
+use Rattle.quickvectors.specs.Quick.{Sound}
+use Rattle.topology.specs.declared.seen.Seen.{Seen}
 
 -- of a feature its FOID, of an edge its ends
 unfoldable pub noteFor : Item → ℕ
@@ -60,6 +63,21 @@ pub record Prepared (notes ws : List ℕ) (m : ℕ) (next : List ℕ) (v : ℕ) 
   pub first : v ≡ firstFrom featureWord ws
   pub ends : wordsIn next m v ≡ take v notes
   pub foids : wordsIn next (m + v) (m - v) ≡ sorted (drop v notes)
+
+-- ---- what is seen of items while the notes are put: ws are the words of all items
+-- the note of one, and, where it is said to be clear, that it has no code
+pub record SeenTold (comf : ℕ) (ws : List ℕ) (i : Item) (r : Seen) : Type 0 where
+  pub note : r .note ≡ noteFor i
+  pub clear : r .clear ≡ true → Sound comf ws i
+
+-- the first k have no code
+pub record ClearTo (comf : ℕ) (s ws : List ℕ) (k : ℕ) : Type 0 where
+  pub few : k ≤ length ws
+  pub each : (j : ℕ) → j < k → Sound comf ws (itemAt s (wordOffset (getD ws j 0)))
+
+-- r counts item i too, if it is clear and all before it are counted
+pub record ClearWith (clear i : ℕ) (good : Bool) (r : ℕ) : Type 0 where
+  pub is : (r ≡ clear) ⊎ ((good ≡ true) × (clear ≡ i) × (r ≡ i + 1))
 
 -- the code of an item, by words and notes
 abbrev pub notedCode : ℕ → List ℕ → ℕ → ℕ → Item → ℕ

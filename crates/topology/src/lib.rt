@@ -10,7 +10,7 @@ ghost use Rattle.headvalues.specs.Dspm.{mostComf};
 ghost use Rattle.words.specs.Words.{wordsIn};
 ghost use Rattle.items.specs.Item.{itemAt};
 ghost use Rattle.topology.specs.Topology.{topologyFault};
-ghost use Rattle.topology.specs.Notes.{notedCode, wordFault};
+ghost use Rattle.topology.specs.Notes.{notedCode, wordFault, ClearTo};
 use iso8211::field::head_of;
 use items::identity::prim_of;
 use items::identity::rcnm_of;
@@ -33,6 +33,7 @@ use answers::refusal::refuse;
 
 pub mod note;
 pub mod quick;
+pub mod seen;
 
 // The note of the item at `at`, whose class has this rank.
 pub use note::note_at;
@@ -84,13 +85,13 @@ pub fn item_code(
     judged_code(s, at, comf, work, m, v)
 }
 
-// The first of m items that has a code.
-fn items_fault(s: &[u8], comf: u32, work: &[u8], m: usize, v: usize) -> Refusal
-    requires { ⌜ AllStand (now s) (wordsIn (now work) 0 m) × Noted (now work) m v × (comf ≤ mostComf) × (m ≤ 5242880) ⌝ }
+// The first of m items that has a code; the first `clear` of them have none.
+fn items_fault(s: &[u8], comf: u32, work: &[u8], m: usize, v: usize, clear: usize) -> Refusal
+    requires { ⌜ AllStand (now s) (wordsIn (now work) 0 m) × Noted (now work) m v × (comf ≤ mostComf) × (m ≤ 5242880) × ClearTo comf (now s) (wordsIn (now work) 0 m) clear ⌝ }
     ensures { λ r. ⌜ r ≡ wordFault (notedCode comf (now (work .entry)) m v) (now (s .entry)) 3 (wordsIn (now (work .entry)) 0 m) ⌝ }
 {
     let starts = starts_of(work, m);
-    let mut i: usize = 0;
+    let mut i = clear;
     while i < m {
         let at = (get(work, i) % word::NAME_WEIGHT) as usize;
         let code = item_code(s, at, comf, work, m, v, starts);
@@ -111,6 +112,6 @@ pub fn topology_fault(s: &[u8], n: usize, work: &mut [u8]) -> Refusal
 {
     let m = n - 3;
     let comf = comf_of(s, n);
-    let vectors = prepare(s, work, m);
-    items_fault(s, comf, work, m, vectors)
+    let ready = prepare(s, work, m, comf);
+    items_fault(s, comf, work, m, ready.vectors, ready.clear)
 }

@@ -5,23 +5,30 @@ ghost use Prim.Native.Nat.{_+_, _*_, _≤_};
 ghost use mathlib.Core.Path.{_≡_};
 ghost use lib.ListN.{length};
 ghost use Rattle.octets.specs.Premises.{Reads};
+ghost use Rattle.headvalues.specs.Dspm.{mostComf};
+ghost use Rattle.iso8211.specs.Premises.{HeadOf};
+ghost use Rattle.spans.specs.Spans.{SpanOf};
 ghost use Rattle.words.specs.Words.{wordsIn};
 ghost use Rattle.words.specs.Order.{Sorted};
 ghost use Rattle.table.specs.Table.{VRPT};
-ghost use Rattle.items.specs.Word.{wordOffset};
 ghost use Rattle.items.specs.Identity.{rcnmAt, foidAt};
 ghost use Rattle.items.specs.Lists.{entriesAt};
 ghost use Rattle.items.specs.Premises.{LaidOut, Identified};
 ghost use Rattle.ring.specs.Walk.{endsWith};
 ghost use Rattle.items.specs.Item.{itemAt};
-ghost use Rattle.topology.specs.Notes.{noteFor, notesFor, Ranked, Roomy, Beside, NotesPut, Prepared};
+ghost use Rattle.topology.specs.Notes.{noteFor, notesFor, Ranked, Roomy, Beside, NotesPut, Prepared, ClearTo};
+use crate::seen::clear_with;
+use crate::seen::seen_of;
+use iso8211::field::Head;
 use iso8211::field::head_of;
 use items::identity::foid_of;
 use items::word;
+use lookups::starts::starts_of;
 use octets::number::get8;
 use ring::ends::ends_between;
 use ring::ends::ends_of;
 use spans::Front;
+use spans::Span;
 use spans::front_of;
 use spans::spans_of;
 use table::sizes;
@@ -31,19 +38,13 @@ use words::get;
 use words::put;
 use words::sort;
 ghost use Rattle.names.specs.NameWords.{itemsAt};
-ghost use Rattle.names.specs.Premises.{Stands};
 
-// The ends of the edge at `at`: where its pointers stand in one field, by these two alone.
-fn ends_note(s: &[u8], at: usize) -> u64
-    requires { ⌜ LaidOut (now s) at × Identified (now s) at ⌝ }
+// The ends of the edge at `at`, whose pointers lie in this span: where they stand in one field, by these
+// two alone.
+pub fn ends_lying(s: &[u8], at: usize, h: Head, ends: Span) -> u64
+    requires { ⌜ LaidOut (now s) at × HeadOf (now s) at h × SpanOf (now s) at 1448235092 ends ⌝ }
     ensures { λ r. ⌜ r ≡ endsWith (entriesAt (now (s .entry)) at VRPT) ⌝ }
 {
-    let h = head_of(s, at);
-    let Front::Vector(_id, due) = front_of(s, at, h) else {
-        return ends_of(s, at, h);
-    };
-    let sp = spans_of(s, at, h, 2, due, tags::VRPT, 0, 0);
-    let ends = sp.one;
     let from = ends.from;
     let to = ends.to;
     if to < from {
@@ -54,6 +55,19 @@ fn ends_note(s: &[u8], at: usize) -> u64
     }
     let mid = from + sizes::VRPT;
     ends_between(&s[from..mid], &s[mid..to])
+}
+
+// The ends of the edge at `at`.
+fn ends_note(s: &[u8], at: usize) -> u64
+    requires { ⌜ LaidOut (now s) at × Identified (now s) at ⌝ }
+    ensures { λ r. ⌜ r ≡ endsWith (entriesAt (now (s .entry)) at VRPT) ⌝ }
+{
+    let h = head_of(s, at);
+    let Front::Vector(_id, due) = front_of(s, at, h) else {
+        return ends_of(s, at, h);
+    };
+    let sp = spans_of(s, at, h, 2, due, tags::VRPT, 0, 0);
+    ends_lying(s, at, h, sp.one)
 }
 
 // The FOID that stands behind the FRID at `id`, which has twelve bytes and its 1E.
@@ -90,26 +104,22 @@ pub fn note_at(s: &[u8], at: usize, rank: u64) -> u64
     0
 }
 
-// The note of the item whose word is w.
-fn note_of(s: &[u8], w: u64) -> u64
-    requires { ⌜ Stands (now s) w ⌝ }
-    ensures { λ r. ⌜ r ≡ noteFor (itemAt (now (s .entry)) (wordOffset w)) ⌝ }
+// The notes of the m items whose words stand at the front of the area, behind these; the answer is how
+// many items at the front are seen to have no fault on the way.
+fn put_notes(s: &[u8], work: &mut [u8], m: usize, comf: u32, nodes: usize) -> usize
+    requires { ⌜ Roomy (now s) (now work) m × Sorted (wordsIn (now work) 0 m) × (comf ≤ mostComf) ⌝ }
+    ensures { λ r. ⌜ NotesPut (notesFor (itemsAt (now (s .entry)) (wordsIn (now (work .entry)) 0 m))) (now (work .entry)) m (now (work .exit))
+        × ClearTo comf (now (s .entry)) (wordsIn (now (work .entry)) 0 m) r ⌝ }
 {
-    let at = (w % word::NAME_WEIGHT) as usize;
-    note_at(s, at, w / word::RANK_WEIGHT)
-}
-
-// The notes of the m items whose words stand at the front of the area, behind these.
-fn put_notes(s: &[u8], work: &mut [u8], m: usize)
-    requires { ⌜ Roomy (now s) (now work) m ⌝ }
-    ensures { λ _. ⌜ NotesPut (notesFor (itemsAt (now (s .entry)) (wordsIn (now (work .entry)) 0 m))) (now (work .entry)) m (now (work .exit)) ⌝ }
-{
+    let mut clear: usize = 0;
     let mut i: usize = 0;
     while i < m {
-        let note = note_of(s, get(work, i));
-        put(work, m + i, note);
+        let seen = seen_of(s, get(work, i), comf, work, m, nodes);
+        put(work, m + i, seen.note);
+        clear = clear_with(clear, i, seen.clear);
         i += 1;
     }
+    clear
 }
 
 // Behind m words their notes, those of the features put in order; the answer is the number of vectors.
@@ -122,11 +132,22 @@ pub fn sort_notes(work: &mut [u8], m: usize) -> usize
     vectors
 }
 
+// The number of vectors among the items, and how many items at the front have no fault.
+pub struct Ready {
+    pub vectors: usize,
+    pub clear: usize,
+}
+
 // The notes of m items of a file, with those of the features in order.
-pub fn prepare(s: &[u8], work: &mut [u8], m: usize) -> usize
-    requires { ⌜ Roomy (now s) (now work) m × Sorted (wordsIn (now work) 0 m) ⌝ }
-    ensures { λ r. ⌜ Prepared (notesFor (itemsAt (now (s .entry)) (wordsIn (now (work .entry)) 0 m))) (wordsIn (now (work .entry)) 0 m) m (now (work .exit)) r ⌝ }
+pub fn prepare(s: &[u8], work: &mut [u8], m: usize, comf: u32) -> Ready
+    requires { ⌜ Roomy (now s) (now work) m × Sorted (wordsIn (now work) 0 m) × (comf ≤ mostComf) ⌝ }
+    ensures { λ r. ⌜ Prepared (notesFor (itemsAt (now (s .entry)) (wordsIn (now (work .entry)) 0 m))) (wordsIn (now (work .entry)) 0 m) m (now (work .exit)) (r .vectors)
+        × ClearTo comf (now (s .entry)) (wordsIn (now (work .entry)) 0 m) (r .clear) ⌝ }
 {
-    put_notes(s, work, m);
-    sort_notes(work, m)
+    let starts = starts_of(work, m);
+    let clear = put_notes(s, work, m, comf, starts.connected);
+    Ready {
+        vectors: sort_notes(work, m),
+        clear,
+    }
 }

@@ -1,5 +1,5 @@
--- Coordinates first; then a node by the sizes of its lists, an edge by its pointers.
-use Rattle.quickvectors.proofs.VectorLaws.{quick-no, quick-node, quick-edge, id-room, list-order}
+-- Its lists by one walk, then it by them.
+use Rattle.quickvectors.proofs.VectorLaws.{sound-quick, noted-names, vector-in}
 use borrow.Author.Needs.{needs}
 use Rattle.quickvectors.proofs.vector_quick.Statement.{statement}
 use Rattle.quickvectors.proofs.vector_quick.Tie as tie
@@ -7,48 +7,11 @@ use Rattle.quickvectors.proofs.vector_quick.Tie as tie
 spans-of-requires : tie.Need-spans-of-requires
 spans-of-requires c κs = search needs
 
-list-within-requires : tie.Need-list-within-requires
-list-within-requires c κs = (search needs, search needs, search needs)
+vector-lying-requires : tie.Need-vector-lying-requires
+vector-lying-requires c κs = (search (needs, vector-in), search (needs, noted-names), search needs)
 
 returns : tie.Need-returns
-returns c = search (needs, quick-no)
-
-list-within-requires-2 : tie.Need-list-within-requires-2
-list-within-requires-2 c κs = (search needs, search needs, search needs)
-
-returns-2 : tie.Need-returns-2
-returns-2 c = search (needs, quick-no)
-
-get1-requires : tie.Need-get1-requires
-get1-requires c κs = search (needs, id-room)
-
-node-shaped-requires : tie.Need-node-shaped-requires
-node-shaped-requires c κs = (search (needs, list-order), search (needs, list-order))
-
-returns-3 : tie.Need-returns-3
-returns-3 c = search (needs, quick-node)
-
-returns-4 : tie.Need-returns-4
-returns-4 c = search (needs, quick-no)
-
-edge-shaped-requires : tie.Need-edge-shaped-requires
-edge-shaped-requires c κs = (search needs, search needs)
-
-returns-5 : tie.Need-returns-5
-returns-5 c = search (needs, quick-edge)
+returns c = search (needs, sound-quick)
 
 pub vector-quick-spec : {M : Type 1} → statement M
-vector-quick-spec =
-    tie.close
-    (tie.spec
-    spans-of-requires
-    list-within-requires
-    returns
-    list-within-requires-2
-    returns-2
-    get1-requires
-    node-shaped-requires
-    returns-3
-    returns-4
-    edge-shaped-requires
-    returns-5)
+vector-quick-spec = tie.close (tie.spec spans-of-requires vector-lying-requires returns)

@@ -3,23 +3,24 @@ use Prim.Native.Nat.{_+_, _-_, _≤_}
 use mathlib.Core.Path.{_≡_}
 use Rattle.words.specs.Words.{wordsIn}
 use Rattle.topology.specs.Notes.{notedCode, wordFault}
-use Rattle.topology.proofs.TopologyLaws.{fault-start, fault-found, fault-on, fault-done, turn-laid, turn-known}
+use Rattle.topology.proofs.TopologyLaws.{fault-found, fault-on, fault-done, turn-laid, turn-known}
+use Rattle.topology.proofs.SeenLaws.{clear-few, clear-start}
 use borrow.Author.Needs.{needs}
 use Rattle.topology.proofs.items_fault.Statement.{statement}
 use Rattle.topology.proofs.items_fault.Tie as tie
 
 abbrev Inv-loop : tie.InvT-loop
-Inv-loop s comf work m v starts i₀ i = (i ≤ m) × (wordFault (notedCode comf work m v) s 3 (wordsIn work 0 m) ≡ wordFault (notedCode comf work m v) s (3 + i)
+Inv-loop s comf work m v clear starts i₀ i = (i ≤ m) × (wordFault (notedCode comf work m v) s 3 (wordsIn work 0 m) ≡ wordFault (notedCode comf work m v) s (3 + i)
     (wordsIn work i (m - i)))
 
 abbrev μ-loop : tie.MeasureT-loop
-μ-loop s comf work m v starts i₀ i = m - i
+μ-loop s comf work m v clear starts i₀ i = m - i
 
 starts-of-requires : tie.Need-starts-of-requires Inv-loop μ-loop
 starts-of-requires c κs = (search needs, search needs)
 
 loop-holds : tie.Need-loop-holds Inv-loop μ-loop
-loop-holds c = search (needs, fault-start)
+loop-holds c = (search (needs, clear-few), search (needs, clear-start))
 
 get-requires : tie.Need-get-requires Inv-loop μ-loop
 get-requires c κs = search needs

@@ -3,6 +3,7 @@ use mathlib.Core.Path.{refl}
 use native.Mathlib.Omega.{arith}
 use Rattle.names.proofs.ReadableLaws.{readable-three}
 use Rattle.topology.proofs.TopologyLaws.{held-order, held-roomy, held-next, held-few, held-fault, held-stays}
+use Rattle.topology.proofs.SeenLaws.{held-clear}
 use borrow.Author.Needs.{needs}
 use Rattle.topology.proofs.topology_fault.Statement.{statement}
 use Rattle.topology.proofs.topology_fault.Tie as tie
@@ -14,10 +15,10 @@ comf-of-requires : tie.Need-comf-of-requires
 comf-of-requires c κs = search (needs, readable-three)
 
 prepare-requires : tie.Need-prepare-requires
-prepare-requires c κs = (search (needs, held-roomy), search (needs, held-order))
+prepare-requires c κs = (search (needs, held-roomy), search (needs, held-order), search needs)
 
 items-fault-requires : tie.Need-items-fault-requires
-items-fault-requires c κs = (search (needs, held-next), search needs, search needs, search (needs, held-few))
+items-fault-requires c κs = (search (needs, held-next), search needs, search needs, search (needs, held-few), search (needs, held-clear))
 
 same-length : tie.Need-same-length
 same-length c = search needs

@@ -1,0 +1,120 @@
+-- Laws of what is seen of items while the notes are put. Assumes nothing.
+use Prim.Native.Nat.{ℕ, zero, suc, _+_, _-_, _*_, _≤_, _<_}
+use mathlib.Core.Bool.{Bool, true, false, not}
+use mathlib.Core.List.{List}
+use mathlib.Core.Logic.{⊎-elim, inl, inr}
+use mathlib.Core.Path.{_≡_, refl, sym, ap, _∙_}
+use native.Mathlib.Nat.{zero-add, sub-zero}
+use native.Mathlib.Numerals.{add-one}
+use native.Mathlib.Omega.{arith}
+use lib.ListN.{length, getD}
+use Rattle.octets.proofs.Cases.{eq-or-ne}
+use Rattle.words.specs.Words.{wordAt, wordsIn}
+use Rattle.words.specs.Order.{Sorted}
+use Rattle.words.proofs.WordsLaws.{words-at, words-length}
+use Rattle.answers.specs.First.{firstBy}
+use Rattle.items.specs.Word.{wordOffset}
+use Rattle.items.specs.Item.{Item, itemAt}
+use Rattle.iso8211.specs.declared.field.Head.{Head}
+use Rattle.spans.specs.Spans.{FrontTold, SpanOf}
+use Rattle.spans.specs.declared.Front.{Front}
+use Rattle.spans.specs.declared.Front.the-variants.{Vector}
+use Rattle.spans.specs.declared.Spans.{Spans}
+use Rattle.quickvectors.specs.Quick.{Sound, SoundTold, VectorIn, NamesIn}
+use Rattle.quickvectors.proofs.VectorLaws.{vector-in}
+use Rattle.topology.proofs.QuickLaws.{vector-id, vector-class}
+use Rattle.topology.specs.Topology.{itemCode}
+use Rattle.topology.specs.Notes.{noteFor, notedCode, wordFault, Ranked, Prepared, SeenTold, ClearTo, ClearWith}
+use Rattle.topology.specs.declared.seen.Seen.{Seen}
+use Rattle.topology.proofs.BesideLaws.{beside-words}
+use Rattle.topology.proofs.NotesLaws.{Filed}
+use Rattle.topology.proofs.TopologyLaws.{fault-start, fault-on}
+
+-- ---- one item
+never : {A : Type 0} → false ≡ true → A
+never e = absurd (let z : _≡_ {A = ℕ} 0 1 = cc in omega arith)
+
+-- of which only the note is known
+pub seen-note : (comf : ℕ) (ws : List ℕ) (i : Item) (r : Seen) → r .note ≡ noteFor i → r .clear ≡ false → SeenTold comf ws i r
+seen-note comf ws i r told none = record { note = told; clear = λ (e : r .clear ≡ true). never (sym none ∙ e) }
+
+pub seen-judged : (comf : ℕ) (ws : List ℕ) (i : Item) (r : Seen) → r .note ≡ noteFor i → SoundTold comf ws i (r .clear) → SeenTold comf ws i r
+seen-judged comf ws i r told sound = record { note = told; clear = sound .is }
+
+-- the front of its record and its lists, f being what the front is told to be
+pub seen-vector : (s : List ℕ) (at rank : ℕ) (h : Head) (f : Front) (id due : ℕ) (sp : Spans) → Ranked s at rank → FrontTold s at h f → f ≡ Vector id due
+    → SpanOf s at 1448235092 (sp .one) → SpanOf s at 1397174852 (sp .two) → SpanOf s at 1397175108 (sp .three) → VectorIn s at id sp
+seen-vector s at rank h f id due sp ranked told is = vector-in s at id sp (ranked .known) (vector-id s at h f told id due is) (vector-class s at h f told id due is)
+
+-- an item without fault has no code, whatever is said of FOIDs and nodes
+sound-code : (comf : ℕ) (work : List ℕ) (m v : ℕ) (i : Item) → Sound comf (wordsIn work 0 m) i → 0 ≡ notedCode comf work m v i
+unfolding itemCode firstBy
+sound-code comf work m v i sound = rw (sound .shape, sound .pointer _, sound .ring _)
+
+-- ---- how many are clear
+pub clear-same : (clear i : ℕ) (good : Bool) → ClearWith clear i good clear
+clear-same clear i good = record { is = inl refl }
+
+pub clear-more : (clear i : ℕ) (good : Bool) → not good ≡ false → clear ≡ i → ClearWith clear i good (i + 1)
+clear-more clear i true good here = record { is = inr (refl, here, refl) }
+clear-more clear i false good here = never (sym good)
+
+-- the words stay while notes are put, and are as many as ever
+pub filed-names : {s a : List ℕ} {m i : ℕ} {b : List ℕ} → Filed s a m i b → 16 * m ≤ length a → Sorted (wordsIn a 0 m) → NamesIn b m
+filed-names {s} {a} {m} {i} {b} filed room order = record {
+  room = let size = filed .so .beside .size in omega arith;
+  order = rw (beside-words (filed .so .beside) 0 m (omega arith)) order;
+}
+
+pub clear-none : (comf : ℕ) (s a : List ℕ) (m : ℕ) → ClearTo comf s (wordsIn a 0 m) 0
+clear-none comf s a m = record { few = omega arith; each = λ (j : ℕ) (h : j < 0). absurd (omega arith) }
+
+-- item i, whose word is w, was seen in the area b
+module _ {comf : ℕ} {s a : List ℕ} {m i : ℕ} {b : List ℕ} (filed : Filed s a m i b) (more : i < m) (w : ℕ) (is : w ≡ wordAt b i) (seen : Seen)
+    (told : SeenTold comf (wordsIn b 0 m) (itemAt s (wordOffset w)) seen) {clear : ℕ} (so : ClearTo comf s (wordsIn a 0 m) clear) where
+  same : wordsIn b 0 m ≡ wordsIn a 0 m
+  same = beside-words (filed .so .beside) 0 m (omega arith)
+
+  word-is : getD (wordsIn a 0 m) i 0 ≡ w
+  word-is = ap (λ (l : List ℕ). getD l i 0) (sym same) ∙ words-at b 0 m i more ∙ rw (zero-add i) (sym is)
+
+  pub clear-on : (r : ℕ) → ClearWith clear i (seen .clear) r → ClearTo comf s (wordsIn a 0 m) r
+  clear-on r with-it =
+      ⊎-elim
+      (λ (e : r ≡ clear). rw e so)
+      (λ (one : (seen .clear ≡ true) × (clear ≡ i) × (r ≡ i + 1)).
+      record {
+        few = rw (words-length a 0 m) (let e = one .2 in omega arith);
+        each = λ (j : ℕ) (h : j < r).
+            ⊎-elim
+            (λ (here : j ≡ i). rw (here, word-is) (rw same at (told .clear (one .0))))
+            (λ (before : j ≡ i → ⊥). so .each j (let e = one .2 in let f = one .1 in omega arith))
+            (eq-or-ne j i);
+      })
+      (with-it .is)
+
+-- ---- the walk over all items begins behind those that are clear
+module _ (comf : ℕ) (s work : List ℕ) (m v clear : ℕ) (so : ClearTo comf s (wordsIn work 0 m) clear) where
+  pub clear-few : clear ≤ m
+  clear-few = rw (words-length work 0 m) at (so .few)
+
+  clear-steps : (k : ℕ) → k ≤ clear
+      → wordFault (notedCode comf work m v) s 3 (wordsIn work 0 m) ≡ wordFault (notedCode comf work m v) s (3 + k) (wordsIn work k (m - k))
+  clear-steps zero low = fault-start (notedCode comf work m v) s work m
+  clear-steps (suc k) low =
+      let few = clear-few in
+      let more : k < m = omega arith in
+      let there : getD (wordsIn work 0 m) k 0 ≡ wordAt work k = words-at work 0 m k more ∙ rw (zero-add k) in
+      let sound = rw there at (so .each k low) in
+      let before = clear-steps k (omega arith) in
+      rw (add-one k) at
+      (fault-on (notedCode comf work m v) s work m k more (wordAt work k) refl (wordOffset (wordAt work k)) refl
+      (wordFault (notedCode comf work m v) s 3 (wordsIn work 0 m)) before 0 (sound-code comf work m v (itemAt s (wordOffset (wordAt work k))) sound) refl)
+
+  pub clear-start : wordFault (notedCode comf work m v) s 3 (wordsIn work 0 m) ≡ wordFault (notedCode comf work m v) s (3 + clear) (wordsIn work clear (m - clear))
+  clear-start = clear-steps clear (omega arith)
+
+-- they are the same words when the notes of the features are sorted
+pub held-clear : {comf : ℕ} {s : List ℕ} (ws : List ℕ) {m : ℕ} {notes next : List ℕ} {v k : ℕ} → ClearTo comf s ws k → Prepared notes ws m next v
+    → ClearTo comf s (wordsIn next 0 m) k
+held-clear ws so prepared = rw (prepared .words) so
