@@ -42,6 +42,9 @@ pub use note::note_at;
 // vectors.
 pub use note::sort_notes;
 
+// The note of the item at `at`, and whether it is known to have no fault.
+pub use seen::seen_at;
+
 // The code of the item at `at`, by the words and notes of m items, of which v are vectors. Of an area
 // Pointer and Ring are judged together, of anything else there is no Ring.
 fn judged_code(s: &[u8], at: usize, comf: u32, work: &[u8], m: usize, v: usize) -> u32

@@ -67,13 +67,19 @@ fn vector_seen(
     }
 }
 
-// The item whose word is w. Features are judged when all notes stand.
-pub fn seen_of(s: &[u8], w: u64, comf: u32, work: &[u8], m: usize, nodes: usize) -> Seen
-    requires { ⌜ Stands (now s) w × NamesIn (now work) m × (comf ≤ mostComf) ⌝ }
-    ensures { λ r. ⌜ SeenTold comf (wordsIn (now (work .entry)) 0 m) (itemAt (now (s .entry)) (wordOffset w)) r ⌝ }
+// The item at `at`, whose class has this rank. Features are judged when all notes stand.
+pub fn seen_at(
+    s: &[u8],
+    at: usize,
+    rank: u64,
+    comf: u32,
+    work: &[u8],
+    m: usize,
+    nodes: usize,
+) -> Seen
+    requires { ⌜ Ranked (now s) at rank × NamesIn (now work) m × (comf ≤ mostComf) ⌝ }
+    ensures { λ r. ⌜ SeenTold comf (wordsIn (now (work .entry)) 0 m) (itemAt (now (s .entry)) at) r ⌝ }
 {
-    let at = (w % word::NAME_WEIGHT) as usize;
-    let rank = w / word::RANK_WEIGHT;
     if rank == 3 {
         return Seen {
             note: note_at(s, at, rank),
@@ -81,6 +87,15 @@ pub fn seen_of(s: &[u8], w: u64, comf: u32, work: &[u8], m: usize, nodes: usize)
         };
     }
     vector_seen(s, at, rank, comf, work, m, nodes)
+}
+
+// The item whose word is w.
+pub fn seen_of(s: &[u8], w: u64, comf: u32, work: &[u8], m: usize, nodes: usize) -> Seen
+    requires { ⌜ Stands (now s) w × NamesIn (now work) m × (comf ≤ mostComf) ⌝ }
+    ensures { λ r. ⌜ SeenTold comf (wordsIn (now (work .entry)) 0 m) (itemAt (now (s .entry)) (wordOffset w)) r ⌝ }
+{
+    let at = (w % word::NAME_WEIGHT) as usize;
+    seen_at(s, at, w / word::RANK_WEIGHT, comf, work, m, nodes)
 }
 
 // How many items at the front have no fault, behind item i: one more if all before it have none.
