@@ -1,10 +1,11 @@
 -- Laws of the walk that notes every item. Assumes nothing.
-use Prim.Native.Nat.{ℕ, _+_, _*_, _^_, _≤_, _<_}
+use Prim.Native.Nat.{ℕ, _+_, _*_, _≤_, _<_}
+use mathlib.Core.Bool.{Bool}
 use mathlib.Core.List.{List, _∷_}
 use mathlib.Core.Path.{_≡_}
 use native.Mathlib.Omega.{arith}
 use lib.ListN.{length}
-use Rattle.words.specs.Words.{wordsIn, putAt}
+use Rattle.words.specs.Words.{wordsIn}
 use Rattle.words.specs.Order.{Sorted}
 use Rattle.topology.specs.Notes.{noteFor, notesFor, Beside, NotesPut, Prepared}
 use Rattle.topology.proofs.BesideLaws.{beside-join}
@@ -14,6 +15,7 @@ use Rattle.merge.specs.declared.walk.At.{At}
 use Rattle.merge.proofs.PlacesLaws.{places-start, places-end}
 use Rattle.resultitems.specs.Result.{objectOf, itemsBy, resultItems}
 use Rattle.resultitems.specs.Able.{Able, AllAble, Laid}
+use Rattle.result.specs.Cleared.{NotePut}
 use Rattle.resultitems.proofs.PlacesLaws.{beside-woof, beside-headed, walk-able, walk-rest}
 
 -- the first i items are noted in `next`, of which j are changed; `work` is as it was before
@@ -42,19 +44,19 @@ module _ {cell update work : List ℕ} {end count edits i j : ℕ} {next : List 
   walked-room = noting-room (walked .so) fits more
 
   module _ {p : At} (head : Headed next end count edits i j p) where
-    headed : Headed work end count edits i j p
-    headed = beside-headed end count edits (walked .so .beside) (laid .notes) more (walked .left) head
+    pub walked-headed : Headed work end count edits i j p
+    walked-headed = beside-headed end count edits (walked .so .beside) (laid .notes) more (walked .left) head
 
     pub walked-able : Able cell update p
-    walked-able = walk-able headed (walked .able)
+    walked-able = walk-able walked-headed (walked .able)
 
-    pub walked-on : (note : ℕ) (c : List ℕ) → note ≡ noteFor (objectOf cell update p) → note < 2 ^ 64 → c ≡ putAt next (count + i) note
+    pub walked-on : {comf : ℕ} {c : List ℕ} {good : Bool} → NotePut comf (objectOf cell update p) next count (count + i) c good
         → Walked cell update work end count edits (i + 1) (j + p .change) c
     unfolding notesFor
-    walked-on note c told small put =
+    walked-on {comf} {c} {good} told =
         let left = itemsBy cell update (placesFrom work end count edits (i + 1) (j + p .change)) in
-        let is : notesFor (itemsBy cell update (placesFrom work end count edits i j)) ≡ note ∷ notesFor left = rw (headed .is, ← told) in
-        record { so = noting-on (walked .so) fits more note (notesFor left) c is small put; able = walk-rest headed (walked .able); left = head .left }
+        let is : notesFor (itemsBy cell update (placesFrom work end count edits i j)) ≡ noteFor (objectOf cell update p) ∷ notesFor left = rw (walked-headed .is) in
+        record { so = noting-on (walked .so) fits more (noteFor (objectOf cell update p)) (notesFor left) c is (told .small) (told .put); able = walk-rest walked-headed (walked .able); left = head .left }
 
 pub walked-done : {cell update work : List ℕ} {end count edits i j : ℕ} {next : List ℕ} → Walked cell update work end count edits i j next → i ≤ count → count ≤ i
     → NotesPut (notesFor (resultItems cell update work end count edits)) work count next
@@ -63,6 +65,9 @@ walked-done {cell} {update} {work} {end} {count} {edits} {i} {j} {next} walked l
     noting-done (walked .so) (rw (places-end work end count edits i j high)) low high
 
 -- ---- notes put, then sorted
+pub laid-room : {cell update work : List ℕ} {end count edits : ℕ} → Laid cell update work end count edits → 8 * count ≤ length work
+laid-room laid = let wide = laid .woof .room in let few = laid .notes in omega arith
+
 module _ {cell update work : List ℕ} {end count edits : ℕ} (laid : Laid cell update work end count edits) {put : List ℕ}
     (noted : NotesPut (notesFor (resultItems cell update work end count edits)) work count put) where
   pub noted-order : Sorted (wordsIn put 0 count)

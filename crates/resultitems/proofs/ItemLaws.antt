@@ -7,7 +7,8 @@ use borrow.Author.Tests.{eq-eqb, ne-eqb}
 use Rattle.items.specs.Premises.{LaidOut, Identified}
 use Rattle.items.specs.Identity.{rankOf}
 use Rattle.items.specs.Item.{itemAt, Item}
-use Rattle.topology.specs.Notes.{noteFor, notedCode, Ranked}
+use Rattle.topology.specs.Notes.{notedCode, Ranked, SeenTold}
+use Rattle.topology.specs.declared.seen.Seen.{Seen}
 use Rattle.items.specs.Word.{rankIn, markOf, markedOffset}
 use Rattle.itemrows.specs.Plain.{Stood}
 use Rattle.writing.proofs.StoodLaws.{stood}
@@ -64,9 +65,9 @@ module _ {cell update : List ℕ} {p : At} (able : Able cell update p) (e : p .c
   changed-stood room r put =
       stood 0 (objectOf cell update p) (able .changed e .good) (rw changed-is (put .small)) (rw changed-is (put .has))
 
--- ---- the note and the code of an item are those of its record
-pub stood-note : {s : List ℕ} {at : ℕ} {t : Item} (r : ℕ) → Stood s at t → r ≡ noteFor (itemAt s at) → r ≡ noteFor t
-stood-note r stood told = told ∙ ap (λ (u : Item). noteFor u) (stood .same)
+-- ---- what is seen of an item, and its code, are those of its record
+pub stood-seen : {s : List ℕ} {at : ℕ} {t : Item} {comf : ℕ} {ws : List ℕ} {r : Seen} → Stood s at t → SeenTold comf ws (itemAt s at) r → SeenTold comf ws t r
+stood-seen stood told = rw (stood .same) at told
 
 pub stood-code : {s : List ℕ} {at : ℕ} {t : Item} (comf : ℕ) (work : List ℕ) (m v r : ℕ) → Stood s at t → r ≡ notedCode comf work m v (itemAt s at) → r ≡ notedCode comf work m v t
 stood-code comf work m v r stood told = told ∙ ap (λ (u : Item). notedCode comf work m v u) (stood .same)

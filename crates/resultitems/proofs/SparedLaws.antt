@@ -11,7 +11,6 @@ use lib.ListN.{length}
 use lib.Dec.{eqb}
 use borrow.Author.Tests.{eq-eqb, ne-eqb}
 use Rattle.octets.proofs.Cases.{eq-or-ne}
-use Rattle.iso8211.specs.Field.{Headed}
 use Rattle.table.specs.Table.{VRPT, SG2D, SG3D, FFPT, FSPT, VRPC, SGCC, FFPC, FSPC}
 use Rattle.fieldvalue.specs.Value.{isAttributes}
 use Rattle.items.specs.Identity.{rcnmAt, rankOf}
@@ -37,7 +36,10 @@ use Rattle.pointer.specs.Pointer.{pointerCode}
 use Rattle.ring.specs.Ring.{ringCode}
 use Rattle.itemrows.specs.Plain.{Stood}
 use Rattle.topology.specs.Topology.{itemCode}
-use Rattle.topology.specs.Notes.{noteFor, notedCode, Ranked}
+use Rattle.quickvectors.specs.Quick.{Sound}
+use Rattle.topology.specs.Notes.{noteFor, notedCode, Ranked, SeenTold}
+use Rattle.topology.specs.declared.seen.Seen.{Seen}
+use Rattle.topology.proofs.SeenLaws.{seen-note}
 use Rattle.merge.specs.declared.walk.At.{At}
 use Rattle.changes.specs.Change.{Amendment, amendmentAt, controlFrom, controlAt, editOf}
 use Rattle.changes.specs.Updated.{amended}
@@ -126,6 +128,14 @@ module _ (a : Amendment) (t : Item) where
   code-same comf place object node no-first no-second =
       rw (vrpt-same no-first, ffpt-same no-first, fspt-same no-second, sg2d-same no-second, sg3d-same no-second)
 
+  sound-same : (comf : ℕ) (ws : List ℕ) → a .first ≡ none → a .second ≡ none → Sound comf ws t → Sound comf ws (amended a t)
+  unfolding shapeCode shapeGood featureGood vectorGood classGood isolatedGood connectedGood edgeGood coordinatesGood pointerCode ringCode amended
+  sound-same comf ws no-first no-second sound = record {
+    shape = rw (vrpt-same no-first, fspt-same no-second, sg2d-same no-second, sg3d-same no-second) (sound .shape);
+    pointer = λ (object : ℕ → Bool). rw (vrpt-same no-first, ffpt-same no-first, fspt-same no-second) (sound .pointer object);
+    ring = λ (node : ℕ → ℕ → ℕ). rw (fspt-same no-second) (sound .ring node);
+  }
+
   -- nor has a note of anything but an edge to do with lists
   note-same : (rankOf (t .rcnm) ≡ 2 → ⊥) → noteFor (amended a t) ≡ noteFor t
   unfolding noteFor amended
@@ -134,6 +144,10 @@ module _ (a : Amendment) (t : Item) where
 -- the record that was built has the class's rank
 pub built-ranked : {cell update s : List ℕ} {at : ℕ} {p : At} (rank : ℕ) → Able cell update p → Stood s at (objectOf cell update p) → rank ≡ rankIn (p .word) → Ranked s at rank
 built-ranked rank able stood e = rw e (stood-ranked able stood)
+
+said : (x : Bool) → not x ≡ true → x ≡ false
+said false h = refl
+said true h = sym h
 
 -- ---- the item that an update modifies
 feature-rank : (rcnm : ℕ) → rcnm ≡ 100 → rankOf rcnm ≡ 3
@@ -157,42 +171,43 @@ module _ {cell update : List ℕ} {p : At} (able : Able cell update p) (one : p 
   pub changed-known : Identified cell (markedOffset (p .word))
   changed-known = able .changed one .edit .paired .known
 
-  pub by-laid : LaidOut update (markedOffset (p .by))
+  by-laid : LaidOut update (markedOffset (p .by))
   by-laid = able .changed one .edit .paired .sides .new
-
-  pub by-headed : Headed update (markedOffset (p .by))
-  by-headed = by-laid .inside .headed
 
   pub changed-ranked : (rank : ℕ) → rank ≡ rankIn (p .word) → Ranked cell (markedOffset (p .word)) rank
   changed-ranked rank e = record { laid = changed-laid; known = changed-known; is = e ∙ rank-is }
 
-  pub changed-classed : Classed update (markedOffset (p .by)) (rankIn (p .word))
-  changed-classed = record {
+  pub changed-classed : (rank : ℕ) → rank ≡ rankIn (p .word) → Classed update (markedOffset (p .by)) rank
+  changed-classed rank is = record {
     laid = by-laid;
-    feature = λ (e : rankIn (p .word) ≡ 3). both-class ∙ sym class-is ∙ able .worded .class (sym (able .worded .rank) ∙ e);
-    vector = λ (ne : rankIn (p .word) ≡ 3 → ⊥) (e : rcnmAt update (markedOffset (p .by)) ≡ 100).
-        ne (rank-is ∙ feature-rank (rcnmAt cell (markedOffset (p .word))) (sym both-class ∙ e));
+    feature = λ (e : rank ≡ 3). both-class ∙ sym class-is ∙ able .worded .class (sym (able .worded .rank) ∙ sym is ∙ e);
+    vector = λ (ne : rank ≡ 3 → ⊥) (e : rcnmAt update (markedOffset (p .by)) ≡ 100).
+        ne (is ∙ rank-is ∙ feature-rank (rcnmAt cell (markedOffset (p .word))) (sym both-class ∙ e));
   }
 
-  module _ (rank r : ℕ) (is : rank ≡ rankIn (p .word)) (told : r ≡ noteFor (itemAt cell (markedOffset (p .word)))) where
-    pub note-kept : (rank ≡ 2 → ⊥) → r ≡ noteFor (objectOf cell update p)
-    note-kept ne =
-        told
-        ∙ sym (note-same (amendmentAt update (markedOffset (p .by))) (itemAt cell (markedOffset (p .word)))
-        (λ (e : rankOf (rcnmAt cell (markedOffset (p .word))) ≡ 2). ne (is ∙ rank-is ∙ e)))
-        ∙ sym (ap noteFor (changed-is able one))
+  -- of a feature its FOID alone
+  pub seen-foid : (comf : ℕ) (ws : List ℕ) (rank : ℕ) (r : Seen) → rank ≡ rankIn (p .word) → rank ≡ 3 → r .note ≡ noteFor (itemAt cell (markedOffset (p .word)))
+      → r .clear ≡ false → SeenTold comf ws (objectOf cell update p) r
+  seen-foid comf ws rank r is three told unseen =
+      seen-note comf ws (objectOf cell update p) r
+      (told
+      ∙ sym (note-same (amendmentAt update (markedOffset (p .by))) (itemAt cell (markedOffset (p .word)))
+      (λ (e : rankOf (rcnmAt cell (markedOffset (p .word))) ≡ 2). omega (arith, is, rank-is)))
+      ∙ sym (ap noteFor (changed-is able one)))
+      unseen
 
-    pub ends-kept : (n : ℕ) → rank ≡ 2 → n ≡ length (listAt update (markedOffset (p .by)) VRPC) → n ≡ 0 → r ≡ noteFor (objectOf cell update p)
-    unfolding isFeature
-    ends-kept n two long zero =
-        let vector : rcnmAt update (markedOffset (p .by)) ≡ 100 → ⊥ =
-        λ (e : rcnmAt update (markedOffset (p .by)) ≡ 100).
-        let three = feature-rank (rcnmAt cell (markedOffset (p .word))) (sym both-class ∙ e) in omega (arith, is, rank-is) in
-        let no-first : amendmentAt update (markedOffset (p .by)) .first ≡ none =
-        rw (ne-eqb (rcnmAt update (markedOffset (p .by))) 100 vector) (absent update (markedOffset (p .by)) VRPC n long zero) in
-        told
-        ∙ sym (ends-same (amendmentAt update (markedOffset (p .by))) (itemAt cell (markedOffset (p .word))) no-first)
-        ∙ sym (ap noteFor (changed-is able one))
+  pub seen-kept : (comf : ℕ) (ws : List ℕ) (b : Bool) (r : Seen) → ControlTold update (markedOffset (p .by)) b → not b ≡ true
+      → SeenTold comf ws (itemAt cell (markedOffset (p .word))) r → SeenTold comf ws (objectOf cell update p) r
+  seen-kept comf ws b r none-told off told =
+      let no : b ≡ false = said b off in
+      let a = amendmentAt update (markedOffset (p .by)) in
+      let t = itemAt cell (markedOffset (p .word)) in
+      let first = none-told .first no in
+      let second = none-told .second no in
+      rw (changed-is able one) (record {
+        note = told .note ∙ sym (ends-same a t first);
+        clear = λ (e : r .clear ≡ true). sound-same a t comf ws first second (told .clear e);
+      })
 
   pub code-kept : (comf : ℕ) (work : List ℕ) (m v r : ℕ) (b : Bool) → ControlTold update (markedOffset (p .by)) b → not b ≡ true
       → r ≡ notedCode comf work m v (itemAt cell (markedOffset (p .word))) → r ≡ notedCode comf work m v (objectOf cell update p)
@@ -201,7 +216,3 @@ module _ {cell update : List ℕ} {p : At} (able : Able cell update p) (one : p 
       told
       ∙ sym (code-same (amendmentAt update (markedOffset (p .by))) (itemAt cell (markedOffset (p .word))) comf _ _ _ (none-told .first no) (none-told .second no))
       ∙ sym (ap (notedCode comf work m v) (changed-is able one))
-    where
-      said : (x : Bool) → not x ≡ true → x ≡ false
-      said false h = refl
-      said true h = sym h

@@ -4,7 +4,8 @@ use mathlib.Core.Path.{_≡_}
 use lib.ListN.{length}
 use Rattle.topology.specs.Notes.{notedCode}
 use Rattle.resultitems.specs.Able.{Rooms}
-use Rattle.result.proofs.FaultLaws.{JudgedFrom, judged-start, judged-able, judged-found, judged-on, judged-done}
+use Rattle.result.specs.Cleared.{JudgedFrom}
+use Rattle.result.proofs.FaultLaws.{clear-judged, judged-able, judged-found, judged-on, judged-done}
 use borrow.Author.Needs.{needs}
 use Rattle.result.proofs.items_fault.Statement.{statement}
 use Rattle.result.proofs.items_fault.Tie as tie
@@ -22,7 +23,7 @@ starts-of-requires : tie.Need-starts-of-requires Inv-loop μ-loop
 starts-of-requires c κs = (search needs, search needs)
 
 loop-holds : tie.Need-loop-holds Inv-loop μ-loop
-loop-holds c = (search needs, search needs, search (needs, judged-start), search needs, search needs, search needs, search needs)
+loop-holds c = (search needs, search needs, search (needs, clear-judged), search needs, search needs, search needs, search needs)
 
 item-at-requires : tie.Need-item-at-requires Inv-loop μ-loop
 item-at-requires c κs = search needs

@@ -1,5 +1,5 @@
 -- The words keep their places while the notes are written; by both the items are judged.
-use Rattle.result.proofs.FaultLaws.{result-laid, result-places, result-topology}
+use Rattle.result.proofs.FaultLaws.{result-laid, result-places, result-clear, result-topology}
 use borrow.Author.Needs.{needs}
 use Rattle.result.proofs.result_fault.Statement.{statement}
 use Rattle.result.proofs.result_fault.Tie as tie
@@ -8,7 +8,7 @@ prepare-requires : tie.Need-prepare-requires
 prepare-requires c κs = search needs
 
 items-fault-requires : tie.Need-items-fault-requires
-items-fault-requires c κs = (search (needs, result-laid), search needs, search needs, search needs)
+items-fault-requires c κs = (search (needs, result-laid), search needs, search needs, search (needs, result-clear), search needs)
 
 same-length : tie.Need-same-length
 same-length c = search needs
