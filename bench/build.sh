@@ -49,6 +49,7 @@ fuzz/seeds elsewhere
 fuzz/target elsewhere
 fuzz/choose elsewhere
 fuzz/watch elsewhere
+fuzz/watch_flags elsewhere
 '
 
 # shellcheck source=compiler.sh

@@ -1,6 +1,6 @@
 /* Chooses few and small inputs that go wherever all of them go: to each place in the plain reader, to each answer of each call, and to each block of the proved
-   code that FUZZ_BLOCKS in the environment lists. The reader is compiled so that it counts its places (clang's -fsanitize-coverage=inline-8bit-counters). From
-   those chosen, parts that aren't needed for that are taken out.
+   code that FUZZ_BLOCKS in the environment lists, or that has a flag on Arm. The reader is compiled so that it counts its places (clang's
+   -fsanitize-coverage=inline-8bit-counters). From those chosen, parts that aren't needed for that are taken out.
    usage: choose FOLDER INPUT.. */
 #include "../../host/s57loader.h"
 #include "../probe.h"
@@ -58,6 +58,7 @@ static void look(const struct input *input, uint8_t *has)
     memset(met, 0, sizeof met);
     watch_again();
     check_input(input, &proved, 1);
+    watch_look();
     memcpy(has + quick_features(), met, watched_blocks());
 }
 

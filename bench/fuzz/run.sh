@@ -2,7 +2,9 @@
 # Fuzzes the loader, guided by where the C readers and the proved code go: each input runs through all of them, and all that a host sees must be the same.
 # usage: bench/fuzz/run.sh SECONDS [keep]
 # SECONDS: by the clock; 0 fuzzes nothing and only looks at the corpus. `keep` puts the smallest inputs that go everywhere the run went in the place of
-# bench/fuzz/corpus. Wants target/staticlib/libs57.a and libprobe.a, as `rt staticlib` writes them, and, since those are x86-64 code, an x86-64 machine.
+# bench/fuzz/corpus. On x86-64 it wants target/staticlib/libs57.a and libprobe.a, as `rt staticlib` writes them, and breakpoints show where they go (watch.h). On Arm,
+# where those don't run, it has the toolchain make them again and compiles the modules that they are made of for this very machine (bench/module.sh), so that the
+# fuzzer sees where they go as it does of the readers; that wants the crates proved.
 # Everything goes to target/fuzz; found/ there stays from run to run, and the next run begins with it. An input that makes a side differ ends the run with 1, and is
 # left there as crash-*: `bench/run.sh replay FILE` shows it again.
 set -eu
@@ -16,11 +18,11 @@ archives=$top/target/staticlib
 corpus=$bench/fuzz/corpus
 strict='-std=c11 -Wall -Wextra -Wpedantic -Werror -g'
 
-[ "$(uname -m)" = x86_64 ] || { echo 'bench/fuzz/run.sh: the archives are x86-64 code; bench/run.sh replay replays the corpus on any machine' >&2; exit 2; }
+machine=$(uname -m)
 # shellcheck source=../compiler.sh
 . "$bench/compiler.sh"
 need clang clang libc6-dev
-[ -n "$(find /usr/lib/llvm-*/lib/clang -name 'libclang_rt.fuzzer-x86_64.a' 2>/dev/null)" ] || need no-such-command libclang-rt-dev
+[ -n "$(find /usr/lib/llvm-*/lib/clang -name "libclang_rt.fuzzer-$machine.a" 2>/dev/null)" ] || need no-such-command libclang-rt-dev
 need llvm-cov llvm
 need objdump binutils
 
@@ -37,16 +39,38 @@ compile() { # OBJECTS FLAGS FILE..
     done
 }
 
+# The proved code is the archives, as they are, or on Arm the objects of their modules that were compiled in the way named.
 # shellcheck disable=SC2086
-link_program() { # PROGRAM FLAGS READERS [ARCHIVES..]
+link_program() { # PROGRAM FLAGS READERS [PROVED]
     program=$1
     flags=$2
     readers=$out/objects/$3
-    shift 3
+    proved=${4:-}
+    set --
+    [ -z "$proved" ] || set -- "$archives/libs57.a" "$archives/libprobe.a"
+    [ -z "$proved" ] || [ "$machine" = x86_64 ] || set -- "$out/objects/$proved/s57.o" "$out/objects/$proved/probe.o"
     clang $strict -O2 -no-pie $flags "fuzz/${program%%-*}.c" "$readers"/*.o "$out"/objects/parts/*.o "$@" -o "$out/$program"
-    fuzz/blocks.sh "$out/$program" >"$out/$program.blocks"
+    [ "$machine" != x86_64 ] || fuzz/blocks.sh "$out/$program" >"$out/$program.blocks"
 }
 
+# On Arm: the modules as they are; so that the fuzzer sees where they go; with a flag at each block (fuzz/watch_flags.c). The last two for the functions whose
+# blocks fuzz/blocks.sh lists.
+compile_modules() {
+    # shellcheck source=../module.sh
+    . "$bench/module.sh"
+    printf '%s\n' 'src:*' 'fun:*::*' 'fun:s57_*' 'fun:probe_show*' >"$out/functions.txt"
+    mkdir -p "$out/objects/proved" "$out/objects/proved-guided" "$out/objects/proved-chosen"
+    for crate in s57 probe; do
+        keep_module "$crate"
+        compile_module "$crate" "$out/objects/proved/$crate.o"
+        compile_module "$crate" "$out/objects/proved-guided/$crate.o" -fsanitize=fuzzer-no-link -fsanitize-coverage-allowlist="$out/functions.txt"
+        compile_module "$crate" "$out/objects/proved-chosen/$crate.o" -fsanitize-coverage=bb,no-prune,inline-bool-flag \
+            -fsanitize-coverage-allowlist="$out/functions.txt"
+    done
+}
+
+watch=fuzz/watch.c
+[ "$machine" = x86_64 ] || watch=fuzz/watch_flags.c
 cd "$bench"
 rm -rf "$out/start" "$out/small" "$out/objects"
 mkdir -p "$out/found" "$out/start" "$out/small" "$corpus"
@@ -56,11 +80,12 @@ compile counted '-O1 -fprofile-instr-generate -fcoverage-mapping' reader/*.c tun
 compile chosen '-O2 -fsanitize-coverage=inline-8bit-counters' reader/*.c
 compile chosen -O2 tuned/*.c
 compile parts -O2 shared/*.c generators/*.c tests/areas.c tests/tally.c tests/ask_show.c fuzz/input.c fuzz/check.c \
-    fuzz/pieces.c fuzz/follow.c fuzz/mutate.c fuzz/less.c fuzz/watch.c
-link_program target -fsanitize=fuzzer guided "$archives/libs57.a" "$archives/libprobe.a"
-link_program target-sanitized -fsanitize=fuzzer,address,undefined sanitized "$archives/libs57.a" "$archives/libprobe.a"
-link_program replay -fprofile-instr-generate counted "$archives/libs57.a" "$archives/libprobe.a"
-link_program choose '' chosen "$archives/libs57.a" "$archives/libprobe.a"
+    fuzz/pieces.c fuzz/follow.c fuzz/mutate.c fuzz/less.c "$watch"
+[ "$machine" = x86_64 ] || compile_modules
+link_program target -fsanitize=fuzzer guided proved-guided
+link_program target-sanitized -fsanitize=fuzzer,address,undefined sanitized proved
+link_program replay -fprofile-instr-generate counted proved
+link_program choose '' chosen proved-chosen
 link_program seeds -fprofile-instr-generate counted
 
 # ---- what is covered: lines and branches of the readers, and answers; with --all the replay says which codes are missing
@@ -81,7 +106,8 @@ if [ "$seconds" -gt 0 ]; then
     # a shell of its own, so that its children's processor time is the fuzzer's
     (
         status=0
-        FUZZ_BLOCKS=$out/target.blocks nice -n 19 ./target -max_total_time="$seconds" -max_len=16384 -timeout=60 -reload=0 -print_final_stats=1 \
+        [ "$machine" != x86_64 ] || export FUZZ_BLOCKS="$out/target.blocks"
+        nice -n 19 ./target -max_total_time="$seconds" -max_len=16384 -timeout=60 -reload=0 -print_final_stats=1 \
             -artifact_prefix="$out/" found start "$corpus" >run.log 2>&1 || status=$?
         times >times.log
         exit "$status"

@@ -1,6 +1,6 @@
 /* What the fuzzer runs (libFuzzer): each input through the plain and the tuned reader, which are compiled so that it sees where they go, and through the
-   proved archive, whose blocks are watched where FUZZ_BLOCKS in the environment names a list of them. Where a side differs the program ends, and the fuzzer keeps
-   the input. bench/fuzz/run.sh builds and runs it. */
+   proved archive, whose blocks are watched where FUZZ_BLOCKS in the environment names a list of them; on Arm through the proved modules, which are compiled as
+   the readers are. Where a side differs the program ends, and the fuzzer keeps the input. bench/fuzz/run.sh builds and runs it. */
 #include "../../host/s57loader.h"
 #include "../probe.h"
 #include "check.h"
