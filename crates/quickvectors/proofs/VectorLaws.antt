@@ -35,7 +35,7 @@ use Rattle.spans.specs.Spans.{SpanIn, SpanOf, restOf, Lies}
 use Rattle.spans.specs.declared.Span.{Span}
 use Rattle.spans.specs.declared.Spans.{Spans}
 use Rattle.spans.proofs.StrideLaws.{rest-end, rest-more, rest-count, vrpt-lies, sg2d-lies, sg3d-lies}
-use Rattle.quickvectors.specs.Quick.{Quick, Sound, SoundTold, VectorIn, NamesIn, ListTold, bytesIn, NodeTold, PairedTold, HeldTold, EndsTold, EdgeTold}
+use Rattle.quickvectors.specs.Quick.{Quick, FaultlessVector, VectorTold, VectorIn, NamesIn, ListTold, bytesIn, NodeTold, PairedTold, HeldTold, EndsTold, EdgeTold}
 use Rattle.quickvectors.proofs.CoordinateLaws.{never}
 
 -- ---- a no tells nothing
@@ -144,15 +144,15 @@ id-room s at id there known = let long = known .long in omega arith
 pub list-order : (comf size : ℕ) (s : List ℕ) (sp : Span) (p : Bool) → ListTold comf size s sp p → not p ≡ false → sp .from ≤ sp .to
 list-order comf size s sp p told pass = told .order (sure p pass)
 
-pub sound-no : (comf : ℕ) (ws : List ℕ) (i : Item) → SoundTold comf ws i false
-sound-no comf ws i = record { is = λ (e : false ≡ true). never e }
+pub told-no : (comf : ℕ) (ws : List ℕ) (i : Item) → VectorTold comf ws i false
+told-no comf ws i = record { is = λ (e : false ≡ true). never e }
 
 -- a vector has no Ring, and for Pointer its VRPT
 module _ (s : List ℕ) (at : ℕ) (vector : rcnmAt s at ≡ 100 → ⊥) where
-  vector-sound : (comf : ℕ) (ws : List ℕ) → classGood (itemAt s at) ≡ true → coordinatesGood comf (itemAt s at) ≡ true
-      → namesCode (indexOf ws) (entriesAt s at VRPT) ≡ 0 → Sound comf ws (itemAt s at)
+  vector-faultless : (comf : ℕ) (ws : List ℕ) → classGood (itemAt s at) ≡ true → coordinatesGood comf (itemAt s at) ≡ true
+      → namesCode (indexOf ws) (entriesAt s at VRPT) ≡ 0 → FaultlessVector comf ws (itemAt s at)
   unfolding shapeCode shapeGood vectorGood pointerCode ringCode
-  vector-sound comf ws class within named = record {
+  vector-faultless comf ws class within named = record {
     shape = rw (ne-eqb (rcnmAt s at) 100 vector, class, within);
     pointer = λ (object : ℕ → Bool). rw (ne-eqb (rcnmAt s at) 100 vector, vrpt-said s at) named;
     ring = λ (node : ℕ → ℕ → ℕ). rw (ne-eqb (rcnmAt s at) 100 vector);
@@ -217,13 +217,13 @@ module _ (s : List ℕ) (at : ℕ) (vector : rcnmAt s at ≡ 100 → ⊥) where
           let sounded : leb 1 (length (entriesAt s at SG3D)) ≡ true = le-leb 1 (length (entriesAt s at SG3D)) (omega (arith, deep-count)) in
           rw (eq-eqb (rcnmAt s at) 110 (sym class-is ∙ is), vrpt-said s at, sg2d-said s at, sg3d-said s at, node-lists none, pairless, sounded)
 
-      pub sound-node : (r : Bool) → (c ≡ 130 → ⊥) → NodeTold c ends pairs soundings r → SoundTold comf (wordsIn work 0 m) (itemAt s at) r
+      pub told-node : (r : Bool) → (c ≡ 130 → ⊥) → NodeTold c ends pairs soundings r → VectorTold comf (wordsIn work 0 m) (itemAt s at) r
       unfolding namesCode
-      sound-node r node told = record {
+      told-node r node told = record {
         is = λ (e : r ≡ true).
             let none = told .none e in
             let named : namesCode (indexOf (wordsIn work 0 m)) (entriesAt s at VRPT) ≡ 0 = rw (node-lists none) in
-            vector-sound comf (wordsIn work 0 m)
+            vector-faultless comf (wordsIn work 0 m)
             (⊎-elim
             (λ (one : (bytesIn pairs ≡ 8) × (bytesIn soundings ≡ 0)). node-paired-good none node (one .0) (one .1))
             (λ (many : (c ≡ 110) × (bytesIn pairs ≡ 0) × (12 ≤ bytesIn soundings)). node-sounded-good none (many .0) (many .1) (many .2))
@@ -231,9 +231,9 @@ module _ (s : List ℕ) (at : ℕ) (vector : rcnmAt s at ≡ 100 → ⊥) where
             coordinates-good named;
       }
 
-      pub sound-edge : (r : Bool) → c ≡ 130 → soundings .from ≡ soundings .to → EdgeTold s ends work m r → SoundTold comf (wordsIn work 0 m) (itemAt s at) r
+      pub told-edge : (r : Bool) → c ≡ 130 → soundings .from ≡ soundings .to → EdgeTold s ends work m r → VectorTold comf (wordsIn work 0 m) (itemAt s at) r
       unfolding classGood edgeGood
-      sound-edge r edge none told = record {
+      told-edge r edge none told = record {
         is = λ (e : r ≡ true).
             let l = vrpt-lies s at ends pointers (told .order e) in
             let two = told .is e in
@@ -243,16 +243,16 @@ module _ (s : List ℕ) (at : ℕ) (vector : rcnmAt s at ≡ 100 → ⊥) where
             let another : rcnmAt s at ≡ 120 → ⊥ = λ (x : rcnmAt s at ≡ 120). omega arith in
             let shaped : classGood (itemAt s at) ≡ true =
             rw (ne-eqb (rcnmAt s at) 110 other, ne-eqb (rcnmAt s at) 120 another, vrpt-said s at, sg3d-said s at, deepless, l .are, two .two, two .good, two .sum) in
-            vector-sound comf (wordsIn work 0 m) shaped coordinates-good (rw (l .are) (two .there));
+            vector-faultless comf (wordsIn work 0 m) shaped coordinates-good (rw (l .are) (two .there));
       }
 
 -- ---- vector_quick
 pub quick-no : (comf : ℕ) (work : List ℕ) (m v : ℕ) (i : Item) → Quick comf work m v i false
 quick-no comf work m v i = record { is = λ (e : false ≡ true). never e }
 
-pub sound-quick : (comf : ℕ) (work : List ℕ) (m v : ℕ) (i : Item) (r : Bool) → SoundTold comf (wordsIn work 0 m) i r → Quick comf work m v i r
-sound-quick comf work m v i r told = record {
-  is = λ (e : r ≡ true). let sound = told .is e in record { shape = sound .shape; pointer = sound .pointer _; ring = sound .ring _ };
+pub told-quick : (comf : ℕ) (work : List ℕ) (m v : ℕ) (i : Item) (r : Bool) → VectorTold comf (wordsIn work 0 m) i r → Quick comf work m v i r
+told-quick comf work m v i r told = record {
+  is = λ (e : r ≡ true). let faultless = told .is e in record { shape = faultless .shape; pointer = faultless .pointer _; ring = faultless .ring _ };
 }
 
 pub noted-names : {work : List ℕ} {m v : ℕ} → Noted work m v → NamesIn work m

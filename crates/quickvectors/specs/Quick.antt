@@ -34,13 +34,13 @@ pub record Quick (comf : ℕ) (work : List ℕ) (m v : ℕ) (i : Item) (r : Bool
   pub is : r ≡ true → Faultless comf work m v i
 
 -- the same of a vector, for which neither FOIDs nor the ends of edges are asked: ws are the words of all items
-pub record Sound (comf : ℕ) (ws : List ℕ) (i : Item) : Type 0 where
+pub record FaultlessVector (comf : ℕ) (ws : List ℕ) (i : Item) : Type 0 where
   pub shape : shapeCode comf i ≡ 0
   pub pointer : (object : ℕ → Bool) → pointerCode (indexOf ws) object i ≡ 0
   pub ring : (node : ℕ → ℕ → ℕ) → ringCode node i ≡ 0
 
-pub record SoundTold (comf : ℕ) (ws : List ℕ) (i : Item) (r : Bool) : Type 0 where
-  pub is : r ≡ true → Sound comf ws i
+pub record VectorTold (comf : ℕ) (ws : List ℕ) (i : Item) (r : Bool) : Type 0 where
+  pub is : r ≡ true → FaultlessVector comf ws i
 
 -- a vector whose identifier field starts at `id`, and whose three lists lie in these spans
 pub record VectorIn (s : List ℕ) (at id : ℕ) (sp : Spans) : Type 0 where

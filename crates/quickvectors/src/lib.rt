@@ -12,7 +12,7 @@ ghost use Rattle.items.specs.Premises.{Identified};
 ghost use Rattle.names.specs.Premises.{Noted};
 ghost use Rattle.spans.specs.Spans.{Reached, SpanIn};
 ghost use Rattle.words.specs.Words.{wordsIn};
-ghost use Rattle.quickvectors.specs.Quick.{NodeTold, PairedTold, HeldTold, EndsTold, EdgeTold, Quick, VectorIn, NamesIn, SoundTold};
+ghost use Rattle.quickvectors.specs.Quick.{NodeTold, PairedTold, HeldTold, EndsTold, EdgeTold, Quick, VectorIn, NamesIn, VectorTold};
 use coordinates::list_within;
 use iso8211::field::Head;
 use lookups::lookup::Found;
@@ -122,7 +122,7 @@ pub fn vector_lying(
     start: usize,
 ) -> bool
     requires { ⌜ VectorIn (now s) at id sp × NamesIn (now work) m × (comf ≤ mostComf) ⌝ }
-    ensures { λ r. ⌜ SoundTold comf (wordsIn (now (work .entry)) 0 m) (itemAt (now (s .entry)) at) r ⌝ }
+    ensures { λ r. ⌜ VectorTold comf (wordsIn (now (work .entry)) 0 m) (itemAt (now (s .entry)) at) r ⌝ }
 {
     let ends = sp.one;
     let pairs = sp.two;

@@ -10,7 +10,7 @@ use Rattle.words.specs.Words.{wordsIn, putAt}
 use Rattle.answers.specs.First.{firstBy}
 use Rattle.items.specs.Item.{Item}
 use Rattle.lookups.specs.LookupWords.{indexOf}
-use Rattle.quickvectors.specs.Quick.{Sound, NamesIn}
+use Rattle.quickvectors.specs.Quick.{FaultlessVector, NamesIn}
 use Rattle.topology.specs.Topology.{itemCode}
 use Rattle.topology.specs.Notes.{SeenTold}
 use Rattle.topology.specs.declared.seen.Seen.{Seen}
@@ -61,9 +61,9 @@ clearing-start comf {cell} {update} {work} {end} {count} {edits} c laid items ch
 }
 
 -- an item without fault has no code
-sound-code : (comf : ℕ) (ws : List ℕ) (object : ℕ → Bool) (node : ℕ → ℕ → ℕ) (i : Item) → Sound comf ws i → 0 ≡ itemCode comf (indexOf ws) object node i
+faultless-code : (comf : ℕ) (ws : List ℕ) (object : ℕ → Bool) (node : ℕ → ℕ → ℕ) (i : Item) → FaultlessVector comf ws i → 0 ≡ itemCode comf (indexOf ws) object node i
 unfolding itemCode firstBy
-sound-code comf ws object node i sound = rw (sound .shape, sound .pointer object, sound .ring node)
+faultless-code comf ws object node i faultless = rw (faultless .shape, faultless .pointer object, faultless .ring node)
 
 module _ {cell update work : List ℕ} {end count edits i j : ℕ} {next : List ℕ} (walked : Walked cell update work end count edits i j next)
     (laid : Laid cell update work end count edits) where
@@ -86,7 +86,7 @@ module _ {cell update work : List ℕ} {end count edits i j : ℕ} {next : List 
       rw e (record { low = omega arith; same = λ (f : c .items ≡ i + 1). absurd (omega arith); so = clearing .so }))
       (λ (one : (good ≡ true) × (c .items ≡ i) × (r .items ≡ i + 1) × (r .edits ≡ j + p .change)).
       let items = one .2 in
-      let sound = rw words-same at (told .clear (one .0)) in
+      let faultless = rw words-same at (told .clear (one .0)) in
       record {
         low = omega arith;
         same = λ (f : r .items ≡ i + 1). one .3;
@@ -95,7 +95,7 @@ module _ {cell update work : List ℕ} {end count edits i j : ℕ} {next : List 
           is = λ (object : ℕ → Bool) (node : ℕ → ℕ → ℕ).
               let judged = rw (one .1, clearing .same (one .1)) at (clearing .so .is object node) in
               rw (one .2, one .3)
-              (judged-on judged (walked-headed walked laid more head) 0 (sound-code comf (wordsIn work 0 count) object node (objectOf cell update p) sound) refl);
+              (judged-on judged (walked-headed walked laid more head) 0 (faultless-code comf (wordsIn work 0 count) object node (objectOf cell update p) faultless) refl);
         };
       })
       (with-it .is)

@@ -56,7 +56,11 @@ module _ {cell update work : List ℕ} {end count edits i j : ℕ} {next : List 
     walked-on {comf} {c} {good} told =
         let left = itemsBy cell update (placesFrom work end count edits (i + 1) (j + p .change)) in
         let is : notesFor (itemsBy cell update (placesFrom work end count edits i j)) ≡ noteFor (objectOf cell update p) ∷ notesFor left = rw (walked-headed .is) in
-        record { so = noting-on (walked .so) fits more (noteFor (objectOf cell update p)) (notesFor left) c is (told .small) (told .put); able = walk-rest walked-headed (walked .able); left = head .left }
+        record {
+          so = noting-on (walked .so) fits more (noteFor (objectOf cell update p)) (notesFor left) c is (told .small) (told .put);
+          able = walk-rest walked-headed (walked .able);
+          left = head .left;
+        }
 
 pub walked-done : {cell update work : List ℕ} {end count edits i j : ℕ} {next : List ℕ} → Walked cell update work end count edits i j next → i ≤ count → count ≤ i
     → NotesPut (notesFor (resultItems cell update work end count edits)) work count next

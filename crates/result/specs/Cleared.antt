@@ -7,7 +7,7 @@ use mathlib.Core.Path.{_≡_}
 use Rattle.words.specs.Words.{wordsIn, putAt}
 use Rattle.items.specs.Item.{Item}
 use Rattle.lookups.specs.LookupWords.{indexOf}
-use Rattle.quickvectors.specs.Quick.{Sound}
+use Rattle.quickvectors.specs.Quick.{FaultlessVector}
 use Rattle.topology.specs.Topology.{itemCode, faultFrom}
 use Rattle.topology.specs.Notes.{noteFor}
 use Rattle.merge.specs.Places.{placesFrom}
@@ -19,7 +19,7 @@ use Rattle.result.specs.declared.Clear.{Clear}
 pub record NotePut (comf : ℕ) (i : Item) (work : List ℕ) (count place : ℕ) (next : List ℕ) (r : Bool) : Type 0 where
   pub put : next ≡ putAt work place (noteFor i)
   pub small : noteFor i < 2 ^ 64
-  pub clear : r ≡ true → Sound comf (wordsIn work 0 count) i
+  pub clear : r ≡ true → FaultlessVector comf (wordsIn work 0 count) i
 
 -- the first i items, of which j are changed, have no code: the refusal is that of the rest
 pub record JudgedFrom (code : Item → ℕ) (cell update work : List ℕ) (end count edits i j : ℕ) : Type 0 where

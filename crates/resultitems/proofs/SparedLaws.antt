@@ -36,7 +36,7 @@ use Rattle.pointer.specs.Pointer.{pointerCode}
 use Rattle.ring.specs.Ring.{ringCode}
 use Rattle.itemrows.specs.Plain.{Stood}
 use Rattle.topology.specs.Topology.{itemCode}
-use Rattle.quickvectors.specs.Quick.{Sound}
+use Rattle.quickvectors.specs.Quick.{FaultlessVector}
 use Rattle.topology.specs.Notes.{noteFor, notedCode, Ranked, SeenTold}
 use Rattle.topology.specs.declared.seen.Seen.{Seen}
 use Rattle.topology.proofs.SeenLaws.{seen-note}
@@ -128,12 +128,12 @@ module _ (a : Amendment) (t : Item) where
   code-same comf place object node no-first no-second =
       rw (vrpt-same no-first, ffpt-same no-first, fspt-same no-second, sg2d-same no-second, sg3d-same no-second)
 
-  sound-same : (comf : ℕ) (ws : List ℕ) → a .first ≡ none → a .second ≡ none → Sound comf ws t → Sound comf ws (amended a t)
+  faultless-same : (comf : ℕ) (ws : List ℕ) → a .first ≡ none → a .second ≡ none → FaultlessVector comf ws t → FaultlessVector comf ws (amended a t)
   unfolding shapeCode shapeGood featureGood vectorGood classGood isolatedGood connectedGood edgeGood coordinatesGood pointerCode ringCode amended
-  sound-same comf ws no-first no-second sound = record {
-    shape = rw (vrpt-same no-first, fspt-same no-second, sg2d-same no-second, sg3d-same no-second) (sound .shape);
-    pointer = λ (object : ℕ → Bool). rw (vrpt-same no-first, ffpt-same no-first, fspt-same no-second) (sound .pointer object);
-    ring = λ (node : ℕ → ℕ → ℕ). rw (fspt-same no-second) (sound .ring node);
+  faultless-same comf ws no-first no-second faultless = record {
+    shape = rw (vrpt-same no-first, fspt-same no-second, sg2d-same no-second, sg3d-same no-second) (faultless .shape);
+    pointer = λ (object : ℕ → Bool). rw (vrpt-same no-first, ffpt-same no-first, fspt-same no-second) (faultless .pointer object);
+    ring = λ (node : ℕ → ℕ → ℕ). rw (fspt-same no-second) (faultless .ring node);
   }
 
   -- nor has a note of anything but an edge to do with lists
@@ -206,7 +206,7 @@ module _ {cell update : List ℕ} {p : At} (able : Able cell update p) (one : p 
       let second = none-told .second no in
       rw (changed-is able one) (record {
         note = told .note ∙ sym (ends-same a t first);
-        clear = λ (e : r .clear ≡ true). sound-same a t comf ws first second (told .clear e);
+        clear = λ (e : r .clear ≡ true). faultless-same a t comf ws first second (told .clear e);
       })
 
   pub code-kept : (comf : ℕ) (work : List ℕ) (m v r : ℕ) (b : Bool) → ControlTold update (markedOffset (p .by)) b → not b ≡ true

@@ -20,7 +20,7 @@ use Rattle.spans.specs.Spans.{FrontTold, SpanOf}
 use Rattle.spans.specs.declared.Front.{Front}
 use Rattle.spans.specs.declared.Front.the-variants.{Vector}
 use Rattle.spans.specs.declared.Spans.{Spans}
-use Rattle.quickvectors.specs.Quick.{Sound, SoundTold, VectorIn, NamesIn}
+use Rattle.quickvectors.specs.Quick.{FaultlessVector, VectorTold, VectorIn, NamesIn}
 use Rattle.quickvectors.proofs.VectorLaws.{vector-in}
 use Rattle.topology.proofs.QuickLaws.{vector-id, vector-class}
 use Rattle.topology.specs.Topology.{itemCode}
@@ -38,8 +38,8 @@ never e = absurd (let z : _≡_ {A = ℕ} 0 1 = cc in omega arith)
 pub seen-note : (comf : ℕ) (ws : List ℕ) (i : Item) (r : Seen) → r .note ≡ noteFor i → r .clear ≡ false → SeenTold comf ws i r
 seen-note comf ws i r told none = record { note = told; clear = λ (e : r .clear ≡ true). never (sym none ∙ e) }
 
-pub seen-judged : (comf : ℕ) (ws : List ℕ) (i : Item) (r : Seen) → r .note ≡ noteFor i → SoundTold comf ws i (r .clear) → SeenTold comf ws i r
-seen-judged comf ws i r told sound = record { note = told; clear = sound .is }
+pub seen-judged : (comf : ℕ) (ws : List ℕ) (i : Item) (r : Seen) → r .note ≡ noteFor i → VectorTold comf ws i (r .clear) → SeenTold comf ws i r
+seen-judged comf ws i r told faultless = record { note = told; clear = faultless .is }
 
 -- the front of its record and its lists, f being what the front is told to be
 pub seen-vector : (s : List ℕ) (at rank : ℕ) (h : Head) (f : Front) (id due : ℕ) (sp : Spans) → Ranked s at rank → FrontTold s at h f → f ≡ Vector id due
@@ -47,9 +47,9 @@ pub seen-vector : (s : List ℕ) (at rank : ℕ) (h : Head) (f : Front) (id due 
 seen-vector s at rank h f id due sp ranked told is = vector-in s at id sp (ranked .known) (vector-id s at h f told id due is) (vector-class s at h f told id due is)
 
 -- an item without fault has no code, whatever is said of FOIDs and nodes
-sound-code : (comf : ℕ) (work : List ℕ) (m v : ℕ) (i : Item) → Sound comf (wordsIn work 0 m) i → 0 ≡ notedCode comf work m v i
+faultless-code : (comf : ℕ) (work : List ℕ) (m v : ℕ) (i : Item) → FaultlessVector comf (wordsIn work 0 m) i → 0 ≡ notedCode comf work m v i
 unfolding itemCode firstBy
-sound-code comf work m v i sound = rw (sound .shape, sound .pointer _, sound .ring _)
+faultless-code comf work m v i faultless = rw (faultless .shape, faultless .pointer _, faultless .ring _)
 
 -- ---- how many are clear
 pub clear-same : (clear i : ℕ) (good : Bool) → ClearWith clear i good clear
@@ -105,11 +105,11 @@ module _ (comf : ℕ) (s work : List ℕ) (m v clear : ℕ) (so : ClearTo comf s
       let few = clear-few in
       let more : k < m = omega arith in
       let there : getD (wordsIn work 0 m) k 0 ≡ wordAt work k = words-at work 0 m k more ∙ rw (zero-add k) in
-      let sound = rw there at (so .each k low) in
+      let faultless = rw there at (so .each k low) in
       let before = clear-steps k (omega arith) in
       rw (add-one k) at
       (fault-on (notedCode comf work m v) s work m k more (wordAt work k) refl (wordOffset (wordAt work k)) refl
-      (wordFault (notedCode comf work m v) s 3 (wordsIn work 0 m)) before 0 (sound-code comf work m v (itemAt s (wordOffset (wordAt work k))) sound) refl)
+      (wordFault (notedCode comf work m v) s 3 (wordsIn work 0 m)) before 0 (faultless-code comf work m v (itemAt s (wordOffset (wordAt work k))) faultless) refl)
 
   pub clear-start : wordFault (notedCode comf work m v) s 3 (wordsIn work 0 m) ≡ wordFault (notedCode comf work m v) s (3 + clear) (wordsIn work clear (m - clear))
   clear-start = clear-steps clear (omega arith)

@@ -23,7 +23,7 @@ use Rattle.answers.specs.Answer.{refusal, fine}
 use Rattle.answers.specs.declared.refusal.Refusal.{Refusal}
 use Rattle.names.specs.Premises.{AllStand, Noted}
 use Rattle.ring.specs.Walk.{endsWith, nodeAt}
-use Rattle.quickvectors.specs.Quick.{Sound}
+use Rattle.quickvectors.specs.Quick.{FaultlessVector}
 use Rattle.topology.specs.declared.seen.Seen.{Seen}
 
 -- of a feature its FOID, of an edge its ends
@@ -68,12 +68,12 @@ pub record Prepared (notes ws : List ℕ) (m : ℕ) (next : List ℕ) (v : ℕ) 
 -- the note of one, and, where it is said to be clear, that it has no code
 pub record SeenTold (comf : ℕ) (ws : List ℕ) (i : Item) (r : Seen) : Type 0 where
   pub note : r .note ≡ noteFor i
-  pub clear : r .clear ≡ true → Sound comf ws i
+  pub clear : r .clear ≡ true → FaultlessVector comf ws i
 
 -- the first k have no code
 pub record ClearTo (comf : ℕ) (s ws : List ℕ) (k : ℕ) : Type 0 where
   pub few : k ≤ length ws
-  pub each : (j : ℕ) → j < k → Sound comf ws (itemAt s (wordOffset (getD ws j 0)))
+  pub each : (j : ℕ) → j < k → FaultlessVector comf ws (itemAt s (wordOffset (getD ws j 0)))
 
 -- r counts item i too, if it is clear and all before it are counted
 pub record ClearWith (clear i : ℕ) (good : Bool) (r : ℕ) : Type 0 where

@@ -11,7 +11,8 @@ use Rattle.result.proofs.put_notes.Tie as tie
 
 abbrev Inv-loop : tie.InvT-loop
 Inv-loop cell update comf work₀ end count edits nodes join₀ table₀ room₀ clear₀ i₀ j₀ work join table room clear i j =
-    (i ≤ count) × Walked cell update work₀ end count edits i j work × Clearing comf cell update work₀ end count edits i j clear × Rooms join table room × (length work ≡ length work₀) × (length join ≡ length join₀) × (length table ≡ length table₀) × (length room ≡ length room₀)
+    (i ≤ count) × Walked cell update work₀ end count edits i j work × Clearing comf cell update work₀ end count edits i j clear × Rooms join table room
+    × (length work ≡ length work₀) × (length join ≡ length join₀) × (length table ≡ length table₀) × (length room ≡ length room₀)
 
 abbrev μ-loop : tie.MeasureT-loop
 μ-loop cell update comf work₀ end count edits nodes join₀ table₀ room₀ clear₀ i₀ j₀ work join table room clear i j = count - i
@@ -42,11 +43,13 @@ loop-less c = search needs
 
 loop-again : tie.Need-loop-again Inv-loop μ-loop
 loop-again c =
-    let walked = c .before .before .before .before .before .before .before .before .before .before .before .before .before .before .before .before .before .before .loop .inv .1 in
-    let clearing = c .before .before .before .before .before .before .before .before .before .before .before .before .before .before .before .before .before .before .loop .inv .2 in
-    let laid = c .before .before .before .before .before .before .before .before .before .before .before .before .before .before .before .before .before .before .before .before .before .before .before .before .before .pre .0 in
+    let put = c .before .before .before .before .before .before .before .before .before .put-note .ensures .0 in
     let head = c .before .before .before .before .before .before .before .before .before .before .before .before .before .before .before .item-at .ensures in
-    let put = c .before .before .before .before .before .before .before .before .before .put-note .ensures .0 in (
+    let inv = c .before .before .before .before .before .before .before .before .before .before .before .before .before .before .before .before .before .before .loop .inv in
+    let walked = inv .1 in
+    let clearing = inv .2 in
+    let laid = c .before .before .before .before .before .before .before .before .before .before .before .before .before .before .before .before
+    .before .before .before .before .before .before .before .before .before .pre .0 in (
       search needs,
       walked-on walked laid (search needs) head put,
       clearing-on walked laid clearing (search needs) head put _ (c .clear-with .ensures),
