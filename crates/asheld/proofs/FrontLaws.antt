@@ -9,17 +9,17 @@ use lib.Dec.{eqb}
 use borrow.Author.Tests.{eqb-true, not-false}
 use Rattle.octets.specs.Number.{byteAt, bytesOf}
 use Rattle.octets.specs.Digits.{none}
-use Rattle.octets.specs.Premises.{Number, Reads}
+use Rattle.octets.specs.Premises.{Number, Reads, Sure}
 use Rattle.octets.specs.Area.{Wrote}
 use Rattle.octets.proofs.AreaLaws.{wrote-as}
 use Rattle.iso8211.specs.Leader.{sizeAt, baseAt}
 use Rattle.iso8211.specs.Field.{Headed}
+use Rattle.iso8211.proofs.DirectoryLaws.{base-sure}
 use Rattle.items.specs.Premises.{LaidOut}
 use Rattle.itemfields.proofs.BytesLaws.{num-bytes}
-use Rattle.asheld.specs.Held.{Sure, Same, LeadTold, BackTold, FrontTold, longOf, baseOf, frontOf, wholeOf, heldBytes}
+use Rattle.asheld.specs.Held.{Same, LeadTold, BackTold, FrontTold, longOf, baseOf, frontOf, wholeOf, heldBytes}
 use Rattle.asheld.proofs.PartLaws.{join}
 use Rattle.asheld.proofs.DigitLaws.{digits-back}
-use Rattle.asheld.proofs.SizeLaws.{base-sure}
 use Rattle.asheld.proofs.WriteLaws.{held-fits, held-put}
 
 never : {A : Type 0} → false ≡ true → A

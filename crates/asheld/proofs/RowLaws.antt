@@ -8,6 +8,7 @@ use native.Mathlib.Omega.{arith}
 use lib.ListN.{length, take, drop, getD}
 use Rattle.octets.specs.Number.{byteAt}
 use Rattle.octets.specs.Digits.{numberAt}
+use Rattle.octets.specs.Premises.{Sure}
 use Rattle.iso8211.specs.Leader.{baseAt, lengthDigits, positionDigits}
 use Rattle.iso8211.specs.Directory.{tagAt, rowAt, rows, rowWidth, len, position}
 use Rattle.iso8211.specs.Field.{countAt, directoryAt, fieldAt}
@@ -15,7 +16,7 @@ use Rattle.iso8211.proofs.DirectoryLaws.{rows-row}
 use Rattle.iso8211.proofs.Promise.{directory-length}
 use Rattle.items.specs.Premises.{LaidOut}
 use Rattle.records.specs.Written.{tagBytes, rowBytes, rowsBytes, longest, farthest, lengthSize, positionSize}
-use Rattle.asheld.specs.Held.{Sure, LongRow}
+use Rattle.asheld.specs.Held.{LongRow}
 use Rattle.asheld.proofs.PartLaws.{join, part-more}
 use Rattle.asheld.proofs.DigitLaws.{digits-back, number-below, number-high, fewest-is}
 

@@ -10,26 +10,20 @@ use lib.ListN.{length}
 use lib.Dec.{eqb}
 use borrow.Author.Tests.{eqb-true, not-false}
 use Rattle.octets.specs.Number.{byteAt}
-use Rattle.octets.specs.Digits.{numberAt, none}
+use Rattle.octets.specs.Digits.{numberAt}
+use Rattle.octets.specs.Premises.{Sure}
 use Rattle.iso8211.specs.Leader.{lengthDigits, positionDigits}
 use Rattle.iso8211.specs.Directory.{rowWidth, len, position}
-use Rattle.iso8211.specs.Field.{countAt, Headed}
+use Rattle.iso8211.specs.Field.{countAt}
 use Rattle.iso8211.specs.Premises.{HeadOf}
 use Rattle.iso8211.specs.declared.field.Head.{Head}
 use Rattle.items.specs.Premises.{LaidOut}
 use Rattle.itemrows.specs.Plain.{PlainTold}
-use Rattle.asheld.specs.Held.{Sure, LongTold, Closed, ClosedTold, Narrow, NarrowTold, LastAt, LastEnd, Held, HeldTold, lastRow}
+use Rattle.asheld.specs.Held.{LongTold, Closed, ClosedTold, Narrow, NarrowTold, LastAt, LastEnd, Held, HeldTold, lastRow}
 use Rattle.asheld.proofs.RowLaws.{lengths-fewest, positions-fewest, row-sure, row-end, len-of, position-of}
 
 never : {A : Type 0} → false ≡ true → A
 never e = absurd (let z : _≡_ {A = ℕ} 0 1 = cc in omega arith)
-
--- ---- the head
-pub base-sure : {s : List ℕ} {at : ℕ} → Headed s at → Sure s (at + 12) 5
-base-sure {s} {at} headed =
-    let there = headed .led .there in
-    let short = headed .short in
-    record { few = omega arith; room = omega arith; number = omega arith }
 
 -- ---- some_long
 pub row-first : (i w : ℕ) → i ≡ i + 0 * w

@@ -6,18 +6,12 @@ use mathlib.Core.List.{List, [], _∷_, _++_}
 use mathlib.Core.Path.{_≡_}
 use lib.ListN.{length, take, drop, getD}
 use Rattle.octets.specs.Number.{byteAt, bytesOf}
-use Rattle.octets.specs.Digits.{none, numberAt, digitsOf}
+use Rattle.octets.specs.Digits.{digitsOf}
 use Rattle.iso8211.specs.Leader.{sizeAt, baseAt, lengthDigits, positionDigits}
 use Rattle.iso8211.specs.Directory.{rowWidth, len, position}
 use Rattle.iso8211.specs.Field.{countAt, directoryAt}
 use Rattle.records.specs.Written.{lengthSize, positionSize, headOver}
 use Rattle.itemrows.specs.Plain.{Plain}
-
--- the n bytes from i on are digits
-pub record Sure (s : List ℕ) (i n : ℕ) : Type 0 where
-  pub few : n ≤ 9
-  pub room : i + n ≤ length s
-  pub number : numberAt s i n < none
 
 -- of n rows of w bytes, the first at i, one has a length that doesn't begin with 0
 pub record LongRow (s : List ℕ) (i n w : ℕ) : Type 0 where

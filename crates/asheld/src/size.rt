@@ -4,9 +4,9 @@ ghost use lib.ListN.{length};
 ghost use Rattle.iso8211.specs.Premises.{HeadOf};
 ghost use Rattle.items.specs.Premises.{LaidOut};
 ghost use Rattle.asheld.specs.Held.{LongTold, ClosedTold, NarrowTold, LastAt, LastEnd, HeldTold};
-use crate::head::sure_digits;
 use iso8211::field::Head;
 use itemrows::plain::is_plain;
+use octets::digits::sure_digits;
 
 // Whether one of n rows of w bytes, the first at i, has a length that doesn't begin with 0.
 fn some_long(s: &[u8], i: usize, n: usize, w: usize) -> bool

@@ -6,9 +6,9 @@ ghost use Rattle.octets.specs.Area.{Wrote};
 ghost use Rattle.iso8211.specs.Leader.{sizeAt, baseAt};
 ghost use Rattle.items.specs.Premises.{LaidOut};
 ghost use Rattle.asheld.specs.Held.{Held, Same, longOf, baseOf, frontOf, wholeOf, heldBytes};
-use crate::head::sure_digits;
 use octets::area::copy;
 use octets::digits::put_digits;
+use octets::digits::sure_digits;
 use octets::number::put2;
 
 // The length of a record, a space, D, and five spaces.

@@ -11,12 +11,13 @@ use lib.Seq.{drop-cons, getD-take, take-suc-set, length-take-le}
 use lib.Dec.{leb, eqb}
 use borrow.Author.Tests.{le-leb, lt-leb, eq-eqb, ne-eqb}
 use Rattle.octets.specs.Number.{byteAt}
-use Rattle.octets.specs.Premises.{Number}
+use Rattle.octets.specs.Digits.{numberAt}
+use Rattle.octets.specs.Premises.{Number, Sure}
 use Rattle.iso8211.specs.Directory.{tagAt, rowAt, rowWidth, rows, len, position}
 use Rattle.iso8211.specs.Record.{fieldGood, inRow}
 use Rattle.iso8211.specs.Premises.{onward, StepWithin, RowStep, BatchStep, Rowed, Due}
 use Rattle.iso8211.specs.Leader.{baseAt, lengthDigits, positionDigits}
-use Rattle.iso8211.specs.Field.{countAt, directoryAt, fieldAt}
+use Rattle.iso8211.specs.Field.{countAt, directoryAt, fieldAt, Headed, FieldsIn}
 use Rattle.iso8211.specs.declared.field.Field.{Field}
 use Rattle.iso8211.specs.declared.directory.Step.{Step}
 use Rattle.iso8211.specs.declared.directory.Step.the-variants.{On, Bad}
@@ -189,6 +190,13 @@ row-within {s} {at} {l} {p} {k} r =
     let step = row-room (at + 24) k (countAt s at) w (at + 24 + countAt s at * w) (r .below) (native.Mathlib.Nat.le-refl (at + 24 + countAt s at * w)) in
     rw (r .lengths, r .positions) (let whole = r .headed .whole in let room = r .headed .room in omega arith)
 
+-- ---- the numbers of the leader
+pub base-sure : {s : List ℕ} {at : ℕ} → Headed s at → Sure s (at + 12) 5
+base-sure {s} {at} headed =
+    let there = headed .led .there in
+    let short = headed .short in
+    record { few = omega arith; room = omega arith; number = omega arith }
+
 pub count-is : (s : List ℕ) (at base l p : ℕ) → base ≡ baseAt s at → l ≡ lengthDigits s at → p ≡ positionDigits s at → (base - 25) / (4 + l + p) ≡ countAt s at
 unfolding countAt
 count-is s at base l p e f g = rw (e, f, g)
@@ -207,10 +215,24 @@ field-tag s at l p i k t r place is =
     is ∙ ap (λ (f : Field). f .tag) (field-is s at (baseAt s at) l p i k (rowAt s l p i) refl place refl r)
 
 -- the same where its start is known
-pub field-on-is : (s : List ℕ) (at l p i k t n start : ℕ) → Rowed s at l p k → i ≡ at + 24 + k * rowWidth l p → t ≡ tagAt s i → Number s (i + 4) l n → Due s at k start
+pub field-on-is : (s : List ℕ) (at l p i k t n start : ℕ) → Rowed s at l p k → i ≡ at + 24 + k * rowWidth l p → t ≡ tagAt s i → n ≡ numberAt s (i + 4) l → Due s at k start
     → record { tag = t; start = start; length = n } ≡ fieldAt s at k
 unfolding rowAt
 field-on-is s at l p i k t n start r place is long due =
     let whole = field-is s at (baseAt s at) l p i k (rowAt s l p i) refl place refl r in
     let there = due .is (r .below) ∙ ap (λ (f : Field). f .start) (sym whole) in
-    rw (is, long .is, there) whole
+    rw (is, long, there) whole
+
+-- its length is a number: the field lies in the file
+pub length-sure : (s : List ℕ) (at l p i k : ℕ) → Rowed s at l p k → i ≡ at + 24 + k * rowWidth l p → i + rowWidth l p ≤ length s → FieldsIn s at → Sure s (i + 4) l
+unfolding rowAt
+length-sure s at l p i k r place room inside =
+    let whole = field-is s at (baseAt s at) l p i k (rowAt s l p i) refl place refl r in
+    let long : numberAt s (i + 4) l ≡ fieldAt s at k .length = ap (λ (f : Field). f .length) whole in
+    let field = inside .fields k (r .below) in
+    let after = field .after in
+    let within = field .within in
+    let small = inside .small in
+    let digits = r .lengths in
+    let nine = r .headed .led .l-high in
+    record { few = omega arith; room = omega arith; number = omega arith }

@@ -4,12 +4,12 @@ ghost use mathlib.Core.Path.{_≡_};
 ghost use lib.ListN.{length};
 ghost use Rattle.iso8211.specs.Directory.{rowWidth};
 ghost use Rattle.iso8211.specs.Record.{endOf};
-ghost use Rattle.iso8211.specs.Field.{countAt, fieldAt, Headed};
+ghost use Rattle.iso8211.specs.Field.{countAt, fieldAt, Headed, FieldsIn};
 ghost use Rattle.iso8211.specs.Premises.{FramedAt, HeadOf, Rowed, Due};
 use crate::directory::row_at;
 use crate::directory::tag_at;
 use crate::record::digit_at;
-use octets::digits::get_digits;
+use octets::digits::sure_digits;
 
 // The numbers of a leader that reading a field takes.
 pub struct Head {
@@ -31,14 +31,14 @@ pub fn record_end(s: &[u8], at: usize) -> usize
     requires { ⌜ FramedAt (now s) at ⌝ }
     ensures { λ r. ⌜ (r ≡ endOf (now (s .entry)) at) × ((at < r) × (r ≤ length (now (s .entry)))) ⌝ }
 {
-    at + get_digits(s, at, 5) as usize
+    at + sure_digits(s, at, 5) as usize
 }
 
 pub fn head_of(s: &[u8], at: usize) -> Head
     requires { ⌜ Headed (now s) at ⌝ }
     ensures { λ r. ⌜ HeadOf (now (s .entry)) at r ⌝ }
 {
-    let base = get_digits(s, at + 12, 5) as usize;
+    let base = sure_digits(s, at + 12, 5) as usize;
     let lengths = digit_at(s, at + 20);
     let positions = digit_at(s, at + 21);
     let count = (base - 25) / (4 + lengths + positions);
@@ -88,15 +88,15 @@ pub fn tag_of(s: &[u8], at: usize, h: Head, k: usize) -> u32
 }
 
 // The same where it is known already where the field starts, as in a walk over all fields: its
-// position needs no reading.
+// position needs no reading. Its length is known to be a number, since the field lies in the file.
 pub fn field_on(s: &[u8], at: usize, h: Head, k: usize, start: usize) -> Field
-    requires { ⌜ HeadOf (now s) at h × ((k < countAt (now s) at) × Due (now s) at k start) ⌝ }
+    requires { ⌜ HeadOf (now s) at h × ((k < countAt (now s) at) × (Due (now s) at k start × FieldsIn (now s) at)) ⌝ }
     ensures { λ r. ⌜ r ≡ fieldAt (now (s .entry)) at k ⌝ }
 {
     let l = h.lengths;
     let p = h.positions;
     let i = row_place(s, at, l, p, k);
     let tag = tag_at(s, i);
-    let length = get_digits(s, i + 4, l) as usize;
+    let length = sure_digits(s, i + 4, l) as usize;
     Field { tag, start, length }
 }

@@ -27,7 +27,7 @@ pub use field::field_at;
 pub use field::tag_of;
 
 // The same where it is known already where the field starts, as in a walk over all fields: its
-// position needs no reading.
+// position needs no reading. Its length is known to be a number, since the field lies in the file.
 pub use field::field_on;
 
 // Whether the file is one or more good records and nothing after.

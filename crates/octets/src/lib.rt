@@ -15,6 +15,9 @@ pub use area::copy;
 // The decimal number in the n bytes from `at` on, or NONE where one of them is no digit.
 pub use digits::get_digits;
 
+// The same where the n bytes are known to be digits.
+pub use digits::sure_digits;
+
 // The number in the five digits from i on; above 99,999 where there is none.
 pub use widths::five_digits;
 

@@ -14,11 +14,11 @@ ghost use Rattle.writing.specs.All.{ItemKnown};
 use crate::joined::put_joined;
 use crate::joined::size_joined;
 use asheld::front::is_front;
-use asheld::head::quick_head;
 use asheld::size::held_size;
 use asheld::write::put_held;
 use asheld::write::put_same;
 use iso8211::field::Head;
+use iso8211::field::head_of;
 use itemrows::lead::put_lead;
 use itemrows::plain::body_of;
 use itemrows::plain::is_plain;
@@ -51,7 +51,7 @@ pub fn size_of(s: &[u8], at: usize) -> u32
     requires { ⌜ Writable (now s) at ⌝ }
     ensures { λ r. ⌜ ItemSized (now (s .entry)) at r ⌝ }
 {
-    let h = quick_head(s, at);
+    let h = head_of(s, at);
     let size = held_size(s, at, h);
     if size == 0 {
         return size_any(s, at, h);
@@ -64,7 +64,7 @@ pub fn known_size(s: &[u8], at: usize) -> Known
     requires { ⌜ Writable (now s) at ⌝ }
     ensures { λ r. ⌜ ItemKnown (now (s .entry)) at r ⌝ }
 {
-    let h = quick_head(s, at);
+    let h = head_of(s, at);
     let size = held_size(s, at, h);
     if size == 0 {
         return Known {
@@ -98,7 +98,7 @@ pub fn put_item(s: &[u8], at: usize, out: &mut [u8], place: usize, number: u32) 
     requires { ⌜ Writable (now s) at × (place + sizeOf (itemPieces number (itemAt (now s) at)) ≤ length (now out)) ⌝ }
     ensures { λ r. ⌜ Wrote (now (out .entry)) place (recordBytes (itemPieces number (itemAt (now (s .entry)) at))) (now (out .exit)) r ⌝ }
 {
-    let h = quick_head(s, at);
+    let h = head_of(s, at);
     let size = held_size(s, at, h);
     if size == 0 {
         return put_any(s, at, h, out, place, number);

@@ -4,7 +4,7 @@ use mathlib.Core.Path.{_≡_}
 use native.Mathlib.Omega.{arith}
 use Rattle.iso8211.specs.Field.{countAt}
 use Rattle.iso8211.specs.Premises.{Due}
-use Rattle.iso8211.proofs.Promise.{due-first, due-next}
+use Rattle.iso8211.proofs.Promise.{fields-in, due-first, due-next}
 use Rattle.layout.specs.Layout.{layoutFault, laidFrom}
 use Rattle.layout.proofs.LayoutLaws.{field-fits, field-long, start-within, laid-start, turn-wrong, turn-on, end-missing, end-good}
 use borrow.Author.Needs.{needs}
@@ -29,7 +29,7 @@ loop-holds : tie.Need-loop-holds Inv-loop μ-loop
 loop-holds c = (search needs, search needs, due-first _ (c .before .before .before .before .pre .0) (omega arith), search (needs, laid-start))
 
 field-on-requires : tie.Need-field-on-requires Inv-loop μ-loop
-field-on-requires c κs = (c .before .before .before .head-of .ensures, (omega arith, c .before .loop .inv .2))
+field-on-requires c κs = (c .before .before .before .head-of .ensures, (omega arith, (c .before .loop .inv .2, search (needs, fields-in))))
 
 field-laid-requires : tie.Need-field-laid-requires Inv-loop μ-loop
 field-laid-requires c κs = (search (needs, field-fits), search (needs, field-long), search needs)

@@ -4,7 +4,7 @@ use native.Mathlib.Omega.{arith}
 use denote.Ref.{now}
 use Rattle.octets.specs.Number.{byteAt}
 use Rattle.asheld.proofs.FrontLaws.{size-sure, same-end, same-put}
-use Rattle.asheld.proofs.SizeLaws.{base-sure}
+use Rattle.iso8211.proofs.DirectoryLaws.{base-sure}
 use borrow.Author.Needs.{needs}
 use Rattle.asheld.proofs.write.put_same.Statement.{statement}
 use Rattle.asheld.proofs.write.put_same.Tie as tie

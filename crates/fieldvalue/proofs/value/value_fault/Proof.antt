@@ -4,7 +4,7 @@ use mathlib.Core.Path.{_≡_, sym, _∙_}
 use native.Mathlib.Omega.{arith}
 use lib.ListN.{length}
 use Rattle.iso8211.specs.Premises.{Due}
-use Rattle.iso8211.proofs.Promise.{due-first, due-next}
+use Rattle.iso8211.proofs.Promise.{fields-in, due-first, due-next}
 use Rattle.fieldvalue.proofs.ValueLaws.{Walked, walked-start, walked-on, walked-stop, walked-end, field-facts, lent-content, lent-filled, lent-length}
 use borrow.Author.Needs.{needs}
 use Rattle.fieldvalue.proofs.value.value_fault.Statement.{statement}
@@ -31,7 +31,7 @@ loop-holds : tie.Need-loop-holds Inv-loop μ-loop
 loop-holds c = (omega arith, (c .before .before .before .before .pre .1 .1), walked-start _ _ _ _ _ _, due-first _ (c .before .before .before .before .pre .0 .known) (omega arith))
 
 field-on-requires : tie.Need-field-on-requires Inv-loop μ-loop
-field-on-requires c κs = ((c .before .before .before .head-of .ensures), (omega arith, (c .before .loop .inv .3)))
+field-on-requires c κs = ((c .before .before .before .head-of .ensures), (omega arith, ((c .before .loop .inv .3), search (needs, fields-in))))
 
 kind-of-requires : tie.Need-kind-of-requires Inv-loop μ-loop
 kind-of-requires c κs = search needs

@@ -1,5 +1,5 @@
 -- The field of row k, from its tag, its length and the start that is known.
-use Rattle.iso8211.proofs.DirectoryLaws.{field-on-is}
+use Rattle.iso8211.proofs.DirectoryLaws.{field-on-is, length-sure}
 use borrow.Author.Needs.{needs}
 use Rattle.iso8211.proofs.field.field_on.Statement.{statement}
 use Rattle.iso8211.proofs.field.field_on.Tie as tie
@@ -10,11 +10,16 @@ row-place-requires c κs = search needs
 tag-at-requires : tie.Need-tag-at-requires
 tag-at-requires c κs = search needs
 
-add-get-digits : tie.Need-add-get-digits
-add-get-digits c = search needs
+add-sure-digits : tie.Need-add-sure-digits
+add-sure-digits c = search needs
 
-get-digits-requires : tie.Need-get-digits-requires
-get-digits-requires c κs = search needs
+sure-digits-requires : tie.Need-sure-digits-requires
+sure-digits-requires c κs = length-sure _ _ _ _ _ _ (record {
+  headed = c .before .before .before .pre .0 .headed;
+  lengths = c .before .before .before .pre .0 .lengths;
+  positions = c .before .before .before .pre .0 .positions;
+  below = c .before .before .before .pre .1 .0;
+}) (c .before .row-place .ensures .0) (c .before .row-place .ensures .1) (c .before .before .before .pre .1 .1 .1)
 
 cast-length : tie.Need-cast-length
 cast-length c = search needs
@@ -26,7 +31,7 @@ returns c = field-on-is _ _ _ _ _ _ _ _ _ (record {
   positions = c .before .before .before .before .pre .0 .positions;
   below = c .before .before .before .before .pre .1 .0;
 }) (c .before .before .row-place .ensures .0)
-    (c .before .tag-at .ensures) (c .get-digits .ensures) (c .before .before .before .before .pre .1 .1)
+    (c .before .tag-at .ensures) (c .sure-digits .ensures .0) (c .before .before .before .before .pre .1 .1 .0)
 
 pub field-on-spec : {M : Type 1} → statement M
 field-on-spec =
@@ -34,7 +39,7 @@ field-on-spec =
     (tie.spec
     row-place-requires
     tag-at-requires
-    add-get-digits
-    get-digits-requires
+    add-sure-digits
+    sure-digits-requires
     cast-length
     returns)

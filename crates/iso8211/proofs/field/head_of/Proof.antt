@@ -1,14 +1,14 @@
-use Rattle.iso8211.proofs.DirectoryLaws.{count-is}
 -- The numbers of the leader, read one by one.
+use Rattle.iso8211.proofs.DirectoryLaws.{base-sure, count-is}
 use borrow.Author.Needs.{needs}
 use Rattle.iso8211.proofs.field.head_of.Statement.{statement}
 use Rattle.iso8211.proofs.field.head_of.Tie as tie
 
-add-get-digits : tie.Need-add-get-digits
-add-get-digits c = search needs
+add-sure-digits : tie.Need-add-sure-digits
+add-sure-digits c = search needs
 
-get-digits-requires : tie.Need-get-digits-requires
-get-digits-requires c κs = search needs
+sure-digits-requires : tie.Need-sure-digits-requires
+sure-digits-requires c κs = search (needs, base-sure)
 
 cast-base : tie.Need-cast-base
 cast-base c = search needs
@@ -40,19 +40,19 @@ div-count c = search needs
 returns : tie.Need-returns
 returns c = record {
   headed = c .before .before .before .before .pre;
-  base = c .before .before .get-digits .ensures .is;
+  base = c .before .before .sure-digits .ensures .0;
   lengths = c .before .digit-at .ensures .0;
   positions =
       c .digit-at2 .ensures .0;
-  count = count-is _ _ _ _ _ (c .before .before .get-digits .ensures .is) (c .before .digit-at .ensures .0) (c .digit-at2 .ensures .0);
+  count = count-is _ _ _ _ _ (c .before .before .sure-digits .ensures .0) (c .before .digit-at .ensures .0) (c .digit-at2 .ensures .0);
 }
 
 pub head-of-spec : {M : Type 1} → statement M
 head-of-spec =
     tie.close
     (tie.spec
-    add-get-digits
-    get-digits-requires
+    add-sure-digits
+    sure-digits-requires
     cast-base
     add-digit-at
     digit-at-requires

@@ -8,8 +8,8 @@ use borrow.Author.Needs.{needs}
 use Rattle.writing.proofs.item.known_size.Statement.{statement}
 use Rattle.writing.proofs.item.known_size.Tie as tie
 
-quick-head-requires : tie.Need-quick-head-requires
-quick-head-requires c κs = search needs
+head-of-requires : tie.Need-head-of-requires
+head-of-requires c κs = search needs
 
 held-size-requires : tie.Need-held-size-requires
 held-size-requires c κs = search needs
@@ -33,7 +33,7 @@ pub known-size-spec : {M : Type 1} → statement M
 known-size-spec =
     tie.close
     (tie.spec
-    quick-head-requires
+    head-of-requires
     held-size-requires
     size-any-requires
     returns

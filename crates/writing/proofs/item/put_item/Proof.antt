@@ -8,8 +8,8 @@ use borrow.Author.Needs.{needs}
 use Rattle.writing.proofs.item.put_item.Statement.{statement}
 use Rattle.writing.proofs.item.put_item.Tie as tie
 
-quick-head-requires : tie.Need-quick-head-requires
-quick-head-requires c κs = search needs
+head-of-requires : tie.Need-head-of-requires
+head-of-requires c κs = search needs
 
 held-size-requires : tie.Need-held-size-requires
 held-size-requires c κs = search needs
@@ -42,7 +42,7 @@ pub put-item-spec : {M : Type 1} → statement M
 put-item-spec =
     tie.close
     (tie.spec
-    quick-head-requires
+    head-of-requires
     held-size-requires
     put-any-requires
     same-length

@@ -8,8 +8,8 @@ use borrow.Author.Needs.{needs}
 use Rattle.writing.proofs.item.size_of.Statement.{statement}
 use Rattle.writing.proofs.item.size_of.Tie as tie
 
-quick-head-requires : tie.Need-quick-head-requires
-quick-head-requires c κs = search needs
+head-of-requires : tie.Need-head-of-requires
+head-of-requires c κs = search needs
 
 held-size-requires : tie.Need-held-size-requires
 held-size-requires c κs = search needs
@@ -28,4 +28,4 @@ returns-2 c =
 
 pub size-of-spec : {M : Type 1} → statement M
 size-of-spec =
-    tie.close (tie.spec quick-head-requires held-size-requires size-any-requires returns returns-2)
+    tie.close (tie.spec head-of-requires held-size-requires size-any-requires returns returns-2)

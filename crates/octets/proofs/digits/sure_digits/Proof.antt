@@ -1,12 +1,11 @@
 -- The invariant: the number from the start is the number from here, with what has been led.
 use Prim.Native.Nat.{_≤_, _<_, _-_, _+_, _^_}
 use mathlib.Core.Path.{_≡_}
 use Rattle.octets.specs.Digits.{digitsFrom, numberAt}
-use Rattle.octets.proofs.DigitsLaws.{digits-start}
-use Rattle.asheld.proofs.DigitLaws.{sure-low, sure-more, sure-on, sure-end, sure-small, sure-times, sure-sum}
+use Rattle.octets.proofs.DigitsLaws.{digits-start, sure-low, sure-more, sure-on, sure-end, sure-small, sure-times, sure-sum}
 use borrow.Author.Needs.{needs}
-use Rattle.asheld.proofs.head.sure_digits.Statement.{statement}
-use Rattle.asheld.proofs.head.sure_digits.Tie as tie
+use Rattle.octets.proofs.digits.sure_digits.Statement.{statement}
+use Rattle.octets.proofs.digits.sure_digits.Tie as tie
 
 abbrev Inv-loop : tie.InvT-loop
 Inv-loop s at n led₀ k₀ led k = (k ≤ n) × (led < 10 ^ k) × (numberAt s at n ≡ digitsFrom (n - k) s (at + k) led)
