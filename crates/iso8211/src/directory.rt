@@ -27,9 +27,9 @@ pub fn row_at(s: &[u8], l: usize, p: usize, i: usize) -> [u32; 3]
     requires { ⌜ (l ≤ 9) × ((p ≤ 9) × (i + rowWidth l p ≤ length (now s))) ⌝ }
     ensures { λ r. ⌜ (r ≡ rowAt (now (s .entry)) l p i) × ((len r ≤ none) × (position r ≤ none)) ⌝ }
 {
-    let tag = tag_at(s, i);
     let length = get_digits(s, i + 4, l);
     let position = get_digits(s, i + 4 + l, p);
+    let tag = tag_at(s, i);
     [tag, length, position]
 }
 

@@ -10,6 +10,7 @@ use crate::directory::row_at;
 use crate::directory::tag_at;
 use crate::record::digit_at;
 use octets::digits::sure_digits;
+use octets::widths::sure_at;
 
 // The numbers of a leader that reading a field takes.
 pub struct Head {
@@ -96,7 +97,7 @@ pub fn field_on(s: &[u8], at: usize, h: Head, k: usize, start: usize) -> Field
     let l = h.lengths;
     let p = h.positions;
     let i = row_place(s, at, l, p, k);
+    let length = sure_at(s, i + 4, l) as usize;
     let tag = tag_at(s, i);
-    let length = sure_digits(s, i + 4, l) as usize;
     Field { tag, start, length }
 }

@@ -10,7 +10,7 @@ use lib.Dec.{ltb}
 use borrow.Author.Tests.{le-leb, ltb-false}
 use Rattle.octets.specs.Number.{byteAt}
 use Rattle.octets.specs.Digits.{isDigit, none, digitsFrom, numberAt}
-use Rattle.octets.specs.Premises.{Number}
+use Rattle.octets.specs.Premises.{Number, Sure}
 use Rattle.octets.proofs.Cases.{true-or-false}
 use Rattle.octets.proofs.Tests.{then-same, else-same}
 use Rattle.octets.specs.Told.{DigitTold, NumberTold, FiveTold, JoinedTold}
@@ -144,3 +144,10 @@ joined-so {led} {last} {scale} a b c = record { small = λ less. (a, b); is = λ
 -- a number told one way is the number that is read
 pub number-told : {s : List ℕ} {i n r : ℕ} → NumberTold s i n r → r < none → Number s i n r
 number-told t less = record { is = t .told less; most = t .most }
+
+-- ---- a width that is one of those told apart
+pub sure-width : (s : List ℕ) (i n m : ℕ) → Sure s i n → n ≡ m → Sure s i m
+sure-width s i n m sure e = rw e at sure
+
+pub width-is : (s : List ℕ) (i n m r : ℕ) → r ≡ numberAt s i m → n ≡ m → r ≡ numberAt s i n
+width-is s i n m r is e = rw e is

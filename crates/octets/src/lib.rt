@@ -15,8 +15,9 @@ pub use area::copy;
 // The decimal number in the n bytes from `at` on, or NONE where one of them is no digit.
 pub use digits::get_digits;
 
-// The same where the n bytes are known to be digits.
+// The same where the n bytes are known to be digits; and where n isn't known before.
 pub use digits::sure_digits;
+pub use widths::sure_at;
 
 // The number in the five digits from i on; above 99,999 where there is none.
 pub use widths::five_digits;

@@ -1,11 +1,14 @@
 // Decimal digits in the widths that leaders and directories mostly have, read without a loop. Told one
 // way: where the answer is NONE, nothing is promised, but for `digits_at`.
-ghost use Prim.Native.Nat.{_+_, _≤_};
+ghost use Prim.Native.Nat.{_+_, _≤_, _<_};
+ghost use mathlib.Core.Path.{_≡_};
 ghost use lib.ListN.{length};
-ghost use Rattle.octets.specs.Premises.{Number};
+ghost use Rattle.octets.specs.Digits.{none, numberAt};
+ghost use Rattle.octets.specs.Premises.{Number, Sure};
 ghost use Rattle.octets.specs.Told.{DigitTold, NumberTold, FiveTold, JoinedTold};
 use crate::digits::NONE;
 use crate::digits::get_digits;
+use crate::digits::sure_digits;
 use crate::number::wide;
 use std::num::wrapping_sub_u32;
 
@@ -104,4 +107,18 @@ pub fn digits_at(s: &[u8], at: usize, n: usize) -> u32
         return r;
     }
     get_digits(s, at, n)
+}
+
+// The same as `sure_digits`, for widths that aren't known before.
+pub fn sure_at(s: &[u8], at: usize, n: usize) -> u32
+    requires { ⌜ Sure (now s) at n ⌝ }
+    ensures { λ r. ⌜ (r ≡ numberAt (now (s .entry)) at n) × (r < none) ⌝ }
+{
+    if n == 2 {
+        return sure_digits(s, at, 2);
+    }
+    if n == 3 {
+        return sure_digits(s, at, 3);
+    }
+    sure_digits(s, at, n)
 }

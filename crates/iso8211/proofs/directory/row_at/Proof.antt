@@ -4,9 +4,6 @@ use borrow.Author.Needs.{needs}
 use Rattle.iso8211.proofs.directory.row_at.Statement.{statement}
 use Rattle.iso8211.proofs.directory.row_at.Tie as tie
 
-tag-at-requires : tie.Need-tag-at-requires
-tag-at-requires c κs = search needs
-
 add-get-digits : tie.Need-add-get-digits
 add-get-digits c = search needs
 
@@ -22,20 +19,23 @@ add-get-digits-3 c = search needs
 get-digits-requires-2 : tie.Need-get-digits-requires-2
 get-digits-requires-2 c κs = search needs
 
+tag-at-requires : tie.Need-tag-at-requires
+tag-at-requires c κs = search needs
+
 returns : tie.Need-returns
 returns c = (
-  row-is _ _ _ _ _ _ _ (c .before .before .tag-at .ensures) (c .before .get-digits .ensures) (c .get-digits2 .ensures),
-  (c .before .get-digits .ensures .most, c .get-digits2 .ensures .most),
+  row-is _ _ _ _ _ _ _ (c .tag-at .ensures) (c .before .before .get-digits .ensures) (c .before .get-digits2 .ensures),
+  (c .before .before .get-digits .ensures .most, c .before .get-digits2 .ensures .most),
 )
 
 pub row-at-spec : {M : Type 1} → statement M
 row-at-spec =
     tie.close
     (tie.spec
-    tag-at-requires
     add-get-digits
     get-digits-requires
     add-get-digits-2
     add-get-digits-3
     get-digits-requires-2
+    tag-at-requires
     returns)
