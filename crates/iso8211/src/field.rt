@@ -35,19 +35,20 @@ pub fn record_end(s: &[u8], at: usize) -> usize
     at + sure_digits(s, at, 5) as usize
 }
 
+// The head of the record at `at`. It divides numbers of 32 bits, so that no test is made of whether they are small.
 pub fn head_of(s: &[u8], at: usize) -> Head
     requires { ⌜ Headed (now s) at ⌝ }
     ensures { λ r. ⌜ HeadOf (now (s .entry)) at r ⌝ }
 {
-    let base = sure_digits(s, at + 12, 5) as usize;
+    let base = sure_digits(s, at + 12, 5);
     let lengths = digit_at(s, at + 20);
     let positions = digit_at(s, at + 21);
-    let count = (base - 25) / (4 + lengths + positions);
+    let count = (base - 25) / (4 + lengths + positions) as u32;
     Head {
-        base,
+        base: base as usize,
         lengths,
         positions,
-        count,
+        count: count as usize,
     }
 }
 

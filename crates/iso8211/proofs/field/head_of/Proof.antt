@@ -1,4 +1,7 @@
 -- The numbers of the leader, read one by one.
+use Prim.Native.Nat.{_+_, _-_}
+use native.Mathlib.Nat.{div-le-self}
+use native.Mathlib.Omega.{arith}
 use Rattle.iso8211.proofs.DirectoryLaws.{base-sure, count-is}
 use borrow.Author.Needs.{needs}
 use Rattle.iso8211.proofs.field.head_of.Statement.{statement}
@@ -9,9 +12,6 @@ add-sure-digits c = search needs
 
 sure-digits-requires : tie.Need-sure-digits-requires
 sure-digits-requires c κs = search (needs, base-sure)
-
-cast-base : tie.Need-cast-base
-cast-base c = search needs
 
 add-digit-at : tie.Need-add-digit-at
 add-digit-at c = search needs
@@ -34,8 +34,21 @@ add-count c = search needs
 add-count-2 : tie.Need-add-count-2
 add-count-2 c = search needs
 
+cast-count : tie.Need-cast-count
+cast-count c = search needs
+
 div-count : tie.Need-div-count
 div-count c = search needs
+
+cast-t7 : tie.Need-cast-t7
+cast-t7 c = search needs
+
+cast-t9 : tie.Need-cast-t9
+cast-t9 c = omega (
+  arith,
+  c .before .before .sure-digits .ensures .1,
+  div-le-self (c .before .before .sure-digits .result - 25) (4 + c .before .digit-at .result + c .digit-at2 .result),
+)
 
 returns : tie.Need-returns
 returns c = record {
@@ -53,7 +66,6 @@ head-of-spec =
     (tie.spec
     add-sure-digits
     sure-digits-requires
-    cast-base
     add-digit-at
     digit-at-requires
     add-digit-at-2
@@ -61,5 +73,8 @@ head-of-spec =
     sub-count
     add-count
     add-count-2
+    cast-count
     div-count
+    cast-t7
+    cast-t9
     returns)
