@@ -4,23 +4,23 @@ use borrow.Author.Needs.{needs}
 use Rattle.recordfine.proofs.row.row_fine.Statement.{statement}
 use Rattle.recordfine.proofs.row.row_fine.Tie as tie
 
-add-digits-at : tie.Need-add-digits-at
-add-digits-at c = search needs
+add-length-at : tie.Need-add-length-at
+add-length-at c = search needs
 
-digits-at-requires : tie.Need-digits-at-requires
-digits-at-requires c κs = search needs
+length-at-requires : tie.Need-length-at-requires
+length-at-requires c κs = search needs
 
 cast-long : tie.Need-cast-long
 cast-long c = search needs
 
-add-digits-at-2 : tie.Need-add-digits-at-2
-add-digits-at-2 c = search needs
+add-position-at : tie.Need-add-position-at
+add-position-at c = search needs
 
-add-digits-at-3 : tie.Need-add-digits-at-3
-add-digits-at-3 c = search needs
+add-position-at-2 : tie.Need-add-position-at-2
+add-position-at-2 c = search needs
 
-digits-at-requires-2 : tie.Need-digits-at-requires-2
-digits-at-requires-2 c κs = search needs
+position-at-requires : tie.Need-position-at-requires
+position-at-requires c κs = search needs
 
 cast-position : tie.Need-cast-position
 cast-position c = search needs
@@ -59,12 +59,12 @@ pub row-fine-spec : {M : Type 1} → statement M
 row-fine-spec =
     tie.close
     (tie.spec
-    add-digits-at
-    digits-at-requires
+    add-length-at
+    length-at-requires
     cast-long
-    add-digits-at-2
-    add-digits-at-3
-    digits-at-requires-2
+    add-position-at
+    add-position-at-2
+    position-at-requires
     cast-position
     returns
     returns-2

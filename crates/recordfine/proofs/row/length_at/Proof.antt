@@ -1,0 +1,42 @@
+-- The width is the number tested for.
+use Rattle.recordfine.proofs.WalkLaws.{digits-as}
+use borrow.Author.Needs.{needs}
+use Rattle.recordfine.proofs.row.length_at.Statement.{statement}
+use Rattle.recordfine.proofs.row.length_at.Tie as tie
+
+get-digits-requires : tie.Need-get-digits-requires
+get-digits-requires c κs = search needs
+
+returns : tie.Need-returns
+returns c = search (needs, digits-as)
+
+get-digits-requires-2 : tie.Need-get-digits-requires-2
+get-digits-requires-2 c κs = search needs
+
+returns-2 : tie.Need-returns-2
+returns-2 c = search (needs, digits-as)
+
+get-digits-requires-3 : tie.Need-get-digits-requires-3
+get-digits-requires-3 c κs = search needs
+
+returns-3 : tie.Need-returns-3
+returns-3 c = search (needs, digits-as)
+
+digits-at-requires : tie.Need-digits-at-requires
+digits-at-requires c κs = search needs
+
+returns-4 : tie.Need-returns-4
+returns-4 c = search needs
+
+pub length-at-spec : {M : Type 1} → statement M
+length-at-spec =
+    tie.close
+    (tie.spec
+    get-digits-requires
+    returns
+    get-digits-requires-2
+    returns-2
+    get-digits-requires-3
+    returns-3
+    digits-at-requires
+    returns-4)
