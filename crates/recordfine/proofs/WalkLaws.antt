@@ -38,6 +38,7 @@ use Rattle.recordfine.specs.declared.open.Open.{Open}
 use Rattle.recordfine.specs.declared.Fine.{Fine}
 use Rattle.octets.specs.Premises.{Number}
 use Rattle.recordfine.specs.Premises.{OpenAt, RowGood, RowTold, FieldsTold, WholeTold, IdentifiedBy}
+use Rattle.recordfine.specs.Walk.{Now, Valued, Passed}
 use Rattle.recordfine.specs.Told.{FineTold}
 
 never : {A : Type 0} → false ≡ true → A
@@ -69,17 +70,7 @@ lent-ended s from long fits some ends =
     let last : from + (long - 1) ≡ from + long - 1 = omega arith in
     rw n (record { some = rw size some; ends = rw (size, getD-take long (drop from s) (long - 1) 0 (omega arith), getD-drop from s (long - 1) 0, last) ends })
 
--- ---- the values of the fields, with the place of a list's first row as its stamp: where the row at i is next
-pub record Now (update : Bool) (aall nall : ℕ) (s : List ℕ) (at : ℕ) (t : List ℕ) (j i prev stamp : ℕ) : Type 0 where
-  pub seen : List ℕ
-  pub stamped : prev ≤ 19 → Stamped t stamp seen
-  pub upto : Upto t stamp
-  pub below : stamp < i
-  pub answer : valueFault update aall nall s at ≡ valuesFrom (countAt s at - j) update aall nall s at j prev seen
-
-pub record Valued (update : Bool) (aall nall : ℕ) (s : List ℕ) (at : ℕ) (before t : List ℕ) (j i prev stamp : ℕ) : Type 0 where
-  pub here : Upto before at → Now update aall nall s at t j i prev stamp
-
+-- ---- the values of the fields
 valued-start : (update : Bool) (aall nall : ℕ) (s : List ℕ) (at : ℕ) (t : List ℕ) → Valued update aall nall s at t t 0 (at + 24) 20 at
 unfolding valueFault
 valued-start update aall nall s at t =
@@ -136,15 +127,7 @@ valued-end {update} {aall} {nall} {s} {at} {before} {t} {j} {i} {prev} {stamp} w
   within = omega arith;
 }
 
--- ---- where the row at i is next: of field j
-pub record Passed (update : Bool) (stage : ℕ) (marks : List ℕ) (aall nall : ℕ) (s : List ℕ) (at w : ℕ) (before t : List ℕ) (i prev stamp due : ℕ) : Type 0 where
-  pub j : ℕ
-  pub few : j ≤ countAt s at
-  pub here : i ≡ at + 24 + j * w
-  pub framing : recordGood false s at ≡ inRow s (at + baseAt s at) (sizeAt s at - baseAt s at) (drop j (directoryAt s at)) due
-  pub laid : layoutFault update stage marks s at ≡ laidFrom (countAt s at - j) update stage marks s at j prev
-  pub valued : Valued update aall nall s at before t j i prev stamp
-
+-- ---- where the walk stands
 pub passed-start : {s : List ℕ} {at : ℕ} {h : Open} (update : Bool) (stage : ℕ) (marks : List ℕ) (aall nall w : ℕ) (t : List ℕ) → OpenAt s at h
     → Passed update stage marks aall nall s at w t t (at + 24) 20 at 0
 passed-start {s} {at} {h} update stage marks aall nall w t o = record {
@@ -157,7 +140,7 @@ passed-start {s} {at} {h} update stage marks aall nall w t o = record {
 }
 
 -- ---- the rows: where they end, and that the one at i is there
-whole-rows : {s : List ℕ} {at : ℕ} {h : Open} → OpenAt s at h → h .body ≡ at + 25 + countAt s at * (4 + h .lengths + h .positions)
+pub whole-rows : {s : List ℕ} {at : ℕ} {h : Open} → OpenAt s at h → h .body ≡ at + 25 + countAt s at * (4 + h .lengths + h .positions)
 whole-rows {s} {at} {h} o =
     let whole : 25 + countAt s at * (4 + h .lengths + h .positions) ≡ baseAt s at = rw (o .lengths, o .positions) (o .framed .headed .whole) in
     let body = o .body in

@@ -2,6 +2,7 @@
 // path only. It promises the crates above that where it says "fine", `iso8211`, `layout` and
 // `fieldvalue` find no fault in the record; where it says no, nothing is promised, and their general
 // code decides. Each row of the directory, each field and each byte of a text is read once.
+pub mod front;
 pub mod open;
 pub mod row;
 
@@ -15,6 +16,7 @@ ghost use Rattle.fieldfine.specs.Told.{contentIn};
 ghost use Rattle.fieldfine.specs.Place.{FieldTold};
 ghost use Rattle.recordfine.specs.Told.{FineTold};
 ghost use Rattle.recordfine.specs.Premises.{OpenAt, FieldsTold, WholeTold, IdentifiedBy};
+use crate::front::front;
 use crate::open::Open;
 use crate::open::opened;
 use crate::row::row_fine;
@@ -102,10 +104,11 @@ fn fields_fine(
     let body = h.body;
     let size = h.end - body;
     let stop = body - 1;
-    let mut prev: usize = START;
-    let mut stamp = at as u32;
-    let mut due: usize = 0;
-    let mut i = at + 24;
+    let next = front(s, at, h, marks, update, stage);
+    let mut prev = next.prev;
+    let mut stamp = next.stamp;
+    let mut due = next.due;
+    let mut i = next.row;
     while i < stop {
         let long = row_fine(s, i, l, p, body, size, due);
         if long == 0 {

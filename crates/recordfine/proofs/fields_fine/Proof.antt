@@ -3,7 +3,8 @@ use Prim.Native.Nat.{_+_, _-_, _≤_}
 use mathlib.Core.Path.{_≡_}
 use native.Mathlib.Omega.{arith}
 use lib.ListN.{length}
-use Rattle.recordfine.proofs.WalkLaws.{Passed, passed-start, passed-on, due-most, row-room, row-within-so, row-ends-so, fields-not, fields-so}
+use Rattle.recordfine.specs.Walk.{Passed}
+use Rattle.recordfine.proofs.WalkLaws.{passed-on, due-most, row-room, row-within-so, row-ends-so, fields-not, fields-so}
 use borrow.Author.Needs.{needs}
 use Rattle.recordfine.proofs.fields_fine.Statement.{statement}
 use Rattle.recordfine.proofs.fields_fine.Tie as tie
@@ -21,20 +22,17 @@ sub-size c = search needs
 sub-stop : tie.Need-sub-stop Inv-loop μ-loop
 sub-stop c = search needs
 
-cast-stamp : tie.Need-cast-stamp Inv-loop μ-loop
-cast-stamp c = search needs
-
-add-i : tie.Need-add-i Inv-loop μ-loop
-add-i c = search needs
+front-requires : tie.Need-front-requires Inv-loop μ-loop
+front-requires c κs = search needs
 
 loop-holds : tie.Need-loop-holds Inv-loop μ-loop
-loop-holds c = (search needs, search needs, passed-start _ _ _ _ _ _ _ (c .before .before .before .before .pre .0))
+loop-holds c = (search needs, search needs, c .front .ensures .passed _ _ _)
 
 row-fine-requires : tie.Need-row-fine-requires Inv-loop μ-loop
 row-fine-requires c κs = (
   search needs,
   search needs,
-  row-room (c .before .loop .inv .2) (c .before .before .before .before .before .before .pre .0) (c .loop-test .taken),
+  row-room (c .before .loop .inv .2) (c .before .before .before .before .before .before .before .pre .0) (c .loop-test .taken),
   search needs,
   search needs,
   search needs,
@@ -55,7 +53,7 @@ add-field-at c = let w = row-within-so (c .before .row-fine .ensures) (c .if1 .l
 tag-at-requires : tie.Need-tag-at-requires Inv-loop μ-loop
 tag-at-requires c κs = omega (
   arith,
-  row-room (c .before .before .before .loop .inv .2) (c .before .before .before .before .before .before .before .before .pre .0)
+  row-room (c .before .before .before .loop .inv .2) (c .before .before .before .before .before .before .before .before .before .pre .0)
       (c .before .before .loop-test .taken),
 )
 
@@ -79,21 +77,21 @@ add-due c = omega (
       (c .before .before .before .before .before .before .before .if1 .left),
 )
 
+add-i : tie.Need-add-i Inv-loop μ-loop
+add-i c = omega (arith, c .before .before .before .before .before .before .before .before .before .before .before .before .before .before .before .before .pre .0 .slim .0)
+
 add-i-2 : tie.Need-add-i-2 Inv-loop μ-loop
-add-i-2 c = omega (arith, c .before .before .before .before .before .before .before .before .before .before .before .before .before .before .before .pre .0 .slim .0)
+add-i-2 c = omega (
+  arith,
+  c .before .before .before .before .before .before .before .before .before .before .before .before .before .before .before .before .pre .0 .slim .0,
+  c .before .before .before .before .before .before .before .before .before .before .before .before .before .before .before .before .pre .0 .slim .1,
+)
 
 add-i-3 : tie.Need-add-i-3 Inv-loop μ-loop
 add-i-3 c = omega (
   arith,
-  c .before .before .before .before .before .before .before .before .before .before .before .before .before .before .before .pre .0 .slim .0,
-  c .before .before .before .before .before .before .before .before .before .before .before .before .before .before .before .pre .0 .slim .1,
-)
-
-add-i-4 : tie.Need-add-i-4 Inv-loop μ-loop
-add-i-4 c = omega (
-  arith,
   row-room (c .before .before .before .before .before .before .before .before .before .before .loop .inv .2)
-      (c .before .before .before .before .before .before .before .before .before .before .before .before .before .before .before .pre .0)
+      (c .before .before .before .before .before .before .before .before .before .before .before .before .before .before .before .before .pre .0)
       (c .before .before .before .before .before .before .before .before .before .loop-test .taken),
 )
 
@@ -103,14 +101,14 @@ loop-less c = omega (arith, c .before .before .before .before .before .before .b
 loop-again : tie.Need-loop-again Inv-loop μ-loop
 loop-again c = (
   due-most (c .before .before .before .before .before .before .before .before .before .before .loop .inv .2)
-      (c .before .before .before .before .before .before .before .before .before .before .before .before .before .before .before .pre .0)
+      (c .before .before .before .before .before .before .before .before .before .before .before .before .before .before .before .before .pre .0)
       (c .before .before .before .before .before .before .before .before .before .loop-test .taken)
       (c .before .before .before .before .before .before .before .before .row-fine .ensures) (c .before .before .before .before .before .before .before .if1 .left)
       (c .before .before .before .before .before .before .tag-at .ensures) (c .before .before .before .before .field-at .ensures) (c .before .if2 .left)
       (c .stamp-of .ensures),
   search needs,
   passed-on (c .before .before .before .before .before .before .before .before .before .before .loop .inv .2)
-      (c .before .before .before .before .before .before .before .before .before .before .before .before .before .before .before .pre .0)
+      (c .before .before .before .before .before .before .before .before .before .before .before .before .before .before .before .before .pre .0)
       (c .before .before .before .before .before .before .before .before .before .loop-test .taken)
       (c .before .before .before .before .before .before .before .before .row-fine .ensures) (c .before .before .before .before .before .before .before .if1 .left)
       (c .before .before .before .before .before .before .tag-at .ensures) (c .before .before .before .before .field-at .ensures) (c .before .if2 .left) (c .stamp-of .ensures),
@@ -123,7 +121,7 @@ same-length-3 : tie.Need-same-length-3 Inv-loop μ-loop
 same-length-3 c = search needs
 
 returns-3 : tie.Need-returns-3 Inv-loop μ-loop
-returns-3 c = fields-so _ (c .before .before .loop .inv .2) (c .before .before .before .before .before .before .before .pre .0) (c .before .loop-test .left)
+returns-3 c = fields-so _ (c .before .before .loop .inv .2) (c .before .before .before .before .before .before .before .before .pre .0) (c .before .loop-test .left)
     (c .is-whole .ensures)
 
 pub fields-fine-spec : {M : Type 1} → statement M
@@ -134,8 +132,7 @@ fields-fine-spec =
     μ-loop
     sub-size
     sub-stop
-    cast-stamp
-    add-i
+    front-requires
     loop-holds
     row-fine-requires
     same-length
@@ -148,9 +145,9 @@ fields-fine-spec =
     returns-2
     stamp-of-requires
     add-due
+    add-i
     add-i-2
     add-i-3
-    add-i-4
     loop-less
     loop-again
     is-whole-requires

@@ -1,0 +1,47 @@
+-- The row, and then its field.
+use Rattle.recordfine.proofs.FrontLaws.{front-not, second-end, second-so}
+use Rattle.fieldfine.proofs.FieldLaws.{field-vrid}
+use borrow.Author.Needs.{needs}
+use Rattle.recordfine.proofs.front.second_fine.Statement.{statement}
+use Rattle.recordfine.proofs.front.second_fine.Tie as tie
+
+row-is-requires : tie.Need-row-is-requires
+row-is-requires c κs = search needs
+
+returns : tie.Need-returns
+returns c = front-not
+
+add-from : tie.Need-add-from
+add-from c = search needs
+
+add-to : tie.Need-add-to
+add-to c = search needs
+
+sub-vrid-field : tie.Need-sub-vrid-field
+sub-vrid-field c = search needs
+
+part-vrid-field-start : tie.Need-part-vrid-field-start
+part-vrid-field-start c = search needs
+
+part-vrid-field-end : tie.Need-part-vrid-field-end
+part-vrid-field-end c = search (needs, second-end)
+
+vrid-field-requires : tie.Need-vrid-field-requires
+vrid-field-requires c κs = search needs
+
+returns-2 : tie.Need-returns-2
+returns-2 c = search (needs, second-so, field-vrid)
+
+pub second-fine-spec : {M : Type 1} → statement M
+second-fine-spec =
+    tie.close
+    (tie.spec
+    row-is-requires
+    returns
+    add-from
+    add-to
+    sub-vrid-field
+    part-vrid-field-start
+    part-vrid-field-end
+    vrid-field-requires
+    returns-2)
