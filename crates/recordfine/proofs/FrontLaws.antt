@@ -1,17 +1,15 @@
 -- Laws of the first rows of a record, whose numbers are compared. Assumes nothing.
-use Prim.Native.Nat.{ℕ, suc, _+_, _-_, _*_, _≤_, _<_}
+use Prim.Native.Nat.{ℕ, _+_, _-_, _*_, _≤_, _<_}
 use mathlib.Core.Bool.{Bool, true, false, not}
 use mathlib.Core.List.{List}
-use mathlib.Core.Path.{_≡_, refl, sym, ap, _∙_}
-use native.Mathlib.Numerals.{add-one}
+use mathlib.Core.Path.{_≡_, refl, sym, _∙_}
 use native.Mathlib.Nat.{mul-le-mul-right}
 use native.Mathlib.Omega.{arith}
 use lib.ListN.{length, take, drop, getD, length-drop}
 use lib.Seq.{length-take-le, take-take}
 use lib.Dec.{eqb}
-use borrow.Author.Tests.{le-leb, eqb-true, eqb-false, not-true, not-false}
+use borrow.Author.Tests.{eqb-true, eqb-false, not-true, not-false}
 use Rattle.octets.specs.Number.{byteAt, numAt}
-use Rattle.octets.specs.Digits.{isDigit, digitsFrom, numberAt}
 use Rattle.octets.specs.Premises.{Reads}
 use Rattle.iso8211.specs.Directory.{tagAt}
 use Rattle.iso8211.specs.Field.{countAt}
@@ -23,31 +21,13 @@ use Rattle.recordfine.specs.declared.open.Open.{Open}
 use Rattle.recordfine.specs.declared.front.Next.{Next}
 use Rattle.recordfine.specs.Premises.{OpenAt, RowGood}
 use Rattle.recordfine.specs.Walk.{Passed, RowIn, SaysTold, RowIs, FrontTold, Behind}
+use Rattle.recordfine.proofs.DigitLaws.{zero-first, one-digit, two-digits}
 use Rattle.recordfine.proofs.WalkLaws.{passed-start, passed-on, second-room, whole-rows}
 
 never : {A : Type 0} → false ≡ true → A
 never e = absurd (let z : _≡_ {A = ℕ} 0 1 = cc in omega arith)
 
 -- ---- a number that is compared
-zero-first : (n : ℕ) (s : List ℕ) (i : ℕ) → byteAt s i ≡ 48 → numberAt s i (suc n) ≡ numberAt s (i + 1) n
-unfolding numberAt digitsFrom isDigit
-zero-first n s i e = rw e
-
-one-digit : (s : List ℕ) (i v : ℕ) → byteAt s i ≡ 48 + v → v ≤ 9 → numberAt s i 1 ≡ v
-unfolding numberAt digitsFrom isDigit
-one-digit s i v e few =
-    let back : 48 + v - 48 ≡ v = omega arith in
-    rw (e, le-leb 48 (48 + v) (omega arith), le-leb (48 + v) 57 (omega arith), back) (omega arith)
-
-two-digits : (s : List ℕ) (i v r : ℕ) → ((k : ℕ) → byteAt s k < 256) → v ≤ 9 → Reads s i 2 r → r ≡ 12336 + 256 * v → numberAt s i 2 ≡ v
-unfolding numAt
-two-digits s i v r below few read e =
-    let is : r ≡ byteAt s i + 256 * (byteAt s (suc i) + 256 * 0) = read .is in
-    let next : byteAt s (i + 1) ≡ byteAt s (suc i) = ap (λ (k : ℕ). byteAt s k) (add-one i) in
-    let a : byteAt s i ≡ 48 = omega (arith, below i, below (i + 1)) in
-    let b : byteAt s (i + 1) ≡ 48 + v = omega (arith, below i, below (i + 1)) in
-    zero-first 1 s i a ∙ one-digit s (i + 1) v b few
-
 pub says-not : {s : List ℕ} {i n v : ℕ} → SaysTold s i n v false
 says-not = record { told = λ e. never e }
 

@@ -45,9 +45,6 @@ never : {A : Type 0} → false ≡ true → A
 never e = absurd (let z : _≡_ {A = ℕ} 0 1 = cc in omega arith)
 
 -- ---- a row
-pub digits-as : {s : List ℕ} {i n m r : ℕ} → Number s i m r → n ≡ m → Number s i n r
-digits-as told e = rw e told
-
 pub row-not : {s : List ℕ} {i l p body size due long : ℕ} → long ≡ 0 → RowTold s i l p body size due long
 row-not e = record { told = λ some. absurd (some e) }
 

@@ -5,10 +5,10 @@ ghost use Rattle.octets.specs.Premises.{Number};
 ghost use Rattle.iso8211.specs.Directory.{rowWidth};
 ghost use Rattle.recordfine.specs.Premises.{RowTold};
 use octets::digits::get_digits;
-use octets::widths::digits_at;
 
-// The length in the n digits from i on. Widths that most records have are read here, without a call.
-fn length_at(s: &[u8], i: usize, n: usize) -> u32
+// The number in the n digits from i on. Two and three are what most records have: these are read without
+// a loop.
+fn near_digits(s: &[u8], i: usize, n: usize) -> u32
     requires { ⌜ (n ≤ 9) × (i + n ≤ length (now s)) ⌝ }
     ensures { λ r. ⌜ Number (now (s .entry)) i n r ⌝ }
 {
@@ -18,24 +18,7 @@ fn length_at(s: &[u8], i: usize, n: usize) -> u32
     if n == 3 {
         return get_digits(s, i, 3);
     }
-    if n == 1 {
-        return get_digits(s, i, 1);
-    }
-    digits_at(s, i, n)
-}
-
-// The same of a position, a function of its own so that the compiler puts both into their caller.
-fn position_at(s: &[u8], i: usize, n: usize) -> u32
-    requires { ⌜ (n ≤ 9) × (i + n ≤ length (now s)) ⌝ }
-    ensures { λ r. ⌜ Number (now (s .entry)) i n r ⌝ }
-{
-    if n == 2 {
-        return get_digits(s, i, 2);
-    }
-    if n == 3 {
-        return get_digits(s, i, 3);
-    }
-    digits_at(s, i, n)
+    get_digits(s, i, n)
 }
 
 // The length, with its 1E, of the field whose row is at i, of l digits of length and p of position, due
@@ -52,8 +35,8 @@ pub fn row_fine(
     requires { ⌜ (l ≤ 9) × (p ≤ 9) × (i + rowWidth l p ≤ length (now s)) × (body + size ≤ length (now s)) × (due ≤ size) × (size ≤ 99999) ⌝ }
     ensures { λ r. ⌜ RowTold (now (s .entry)) i l p body size due r ⌝ }
 {
-    let long = length_at(s, i + 4, l) as usize;
-    let position = position_at(s, i + 4 + l, p) as usize;
+    let long = near_digits(s, i + 4, l) as usize;
+    let position = near_digits(s, i + 4 + l, p) as usize;
     if position != due {
         return 0;
     }

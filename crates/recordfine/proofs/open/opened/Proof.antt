@@ -14,14 +14,14 @@ shut-requires c κs = search needs
 returns : tie.Need-returns
 returns c = search (needs, opened-not)
 
-five-digits-requires : tie.Need-five-digits-requires
-five-digits-requires c κs = let l = led-so _ _ _ (c .before .leader-good .ensures) (c .if1 .left) in omega arith
+size-at-requires : tie.Need-size-at-requires
+size-at-requires c κs = let l = led-so _ _ _ (c .before .leader-good .ensures) (c .if1 .left) in omega arith
 
-add-five-digits : tie.Need-add-five-digits
-add-five-digits c = search needs
+add-size-at : tie.Need-add-size-at
+add-size-at c = search needs
 
-five-digits-requires-2 : tie.Need-five-digits-requires-2
-five-digits-requires-2 c κs = let l = led-so _ _ _ (c .before .before .leader-good .ensures) (c .before .if1 .left) in omega arith
+size-at-requires-2 : tie.Need-size-at-requires-2
+size-at-requires-2 c κs = let l = led-so _ _ _ (c .before .before .leader-good .ensures) (c .before .if1 .left) in omega arith
 
 add-digit-at : tie.Need-add-digit-at
 add-digit-at c = search needs
@@ -52,8 +52,8 @@ add-t10 c = search needs
 
 returns-3 : tie.Need-returns-3
 returns-3 c = opened-so _ _ _ _ _ _ _ _ (c .before .before .before .before .before .before .before .leader-good .ensures)
-    (c .before .before .before .before .before .before .if1 .left) (c .before .before .before .before .before .five-digits .ensures)
-    (c .before .before .before .before .five-digits2 .ensures) (c .before .before .before .digit-at .ensures .0) (c .before .before .before .digit-at .ensures .1)
+    (c .before .before .before .before .before .before .if1 .left) (c .before .before .before .before .before .size-at .ensures)
+    (c .before .before .before .before .size-at2 .ensures) (c .before .before .before .digit-at .ensures .0) (c .before .before .before .digit-at .ensures .1)
     (c .before .before .digit-at2 .ensures .0) (c .before .before .digit-at2 .ensures .1) (c .before .head-good .ensures) (c .if2 .left)
 
 pub opened-spec : {M : Type 1} → statement M
@@ -63,9 +63,9 @@ opened-spec =
     leader-good-requires
     shut-requires
     returns
-    five-digits-requires
-    add-five-digits
-    five-digits-requires-2
+    size-at-requires
+    add-size-at
+    size-at-requires-2
     add-digit-at
     digit-at-requires
     add-digit-at-2

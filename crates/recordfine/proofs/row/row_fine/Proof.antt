@@ -4,23 +4,23 @@ use borrow.Author.Needs.{needs}
 use Rattle.recordfine.proofs.row.row_fine.Statement.{statement}
 use Rattle.recordfine.proofs.row.row_fine.Tie as tie
 
-add-length-at : tie.Need-add-length-at
-add-length-at c = search needs
+add-near-digits : tie.Need-add-near-digits
+add-near-digits c = search needs
 
-length-at-requires : tie.Need-length-at-requires
-length-at-requires c κs = search needs
+near-digits-requires : tie.Need-near-digits-requires
+near-digits-requires c κs = search needs
 
 cast-long : tie.Need-cast-long
 cast-long c = search needs
 
-add-position-at : tie.Need-add-position-at
-add-position-at c = search needs
+add-near-digits-2 : tie.Need-add-near-digits-2
+add-near-digits-2 c = search needs
 
-add-position-at-2 : tie.Need-add-position-at-2
-add-position-at-2 c = search needs
+add-near-digits-3 : tie.Need-add-near-digits-3
+add-near-digits-3 c = search needs
 
-position-at-requires : tie.Need-position-at-requires
-position-at-requires c κs = search needs
+near-digits-requires-2 : tie.Need-near-digits-requires-2
+near-digits-requires-2 c κs = search needs
 
 cast-position : tie.Need-cast-position
 cast-position c = search needs
@@ -59,12 +59,12 @@ pub row-fine-spec : {M : Type 1} → statement M
 row-fine-spec =
     tie.close
     (tie.spec
-    add-length-at
-    length-at-requires
+    add-near-digits
+    near-digits-requires
     cast-long
-    add-position-at
-    add-position-at-2
-    position-at-requires
+    add-near-digits-2
+    add-near-digits-3
+    near-digits-requires-2
     cast-position
     returns
     returns-2
