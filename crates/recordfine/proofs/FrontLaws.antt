@@ -18,8 +18,7 @@ use Rattle.fieldfine.specs.Place.{PlainField}
 use Rattle.fieldfine.proofs.PlaceLaws.{single-so}
 use Rattle.fieldfine.proofs.FieldLaws.{field-first, field-plain}
 use Rattle.recordfine.specs.declared.open.Open.{Open}
-use Rattle.recordfine.specs.declared.front.Next.{Next}
-use Rattle.recordfine.specs.Premises.{OpenAt, RowGood}
+use Rattle.recordfine.specs.Premises.{OpenAt}
 use Rattle.recordfine.specs.Walk.{Passed, RowIn, SaysTold, RowIs, FrontTold, Behind}
 use Rattle.recordfine.proofs.DigitLaws.{zero-first, one-digit, two-digits}
 use Rattle.recordfine.proofs.WalkLaws.{passed-start, passed-on, second-room, whole-rows}
@@ -124,9 +123,6 @@ module _ {s : List ℕ} {at : ℕ} {h : Open} (o : OpenAt s at h) where
   two-rows =
       let step : 2 * (4 + h .lengths + h .positions) ≤ countAt s at * (4 + h .lengths + h .positions) = mul-le-mul-right (4 + h .lengths + h .positions) (o .two) in
       omega (arith, whole-rows o)
-
-  pub first-in : RowIn s (at + 24) h
-  first-in = let room = second-room o in record { row = omega arith; room = o .room; fits = o .fits; slim = o .slim }
 
   pub second-in : RowIn s (at + 24 + (4 + h .lengths + h .positions)) h
   second-in = record { row = second-room o; room = o .room; fits = o .fits; slim = o .slim }

@@ -23,7 +23,7 @@ use Rattle.iso8211.specs.declared.field.Field.{Field}
 use Rattle.iso8211.proofs.DirectoryLaws.{rows-row, in-row-next, field-is, field-tag, row-within, row-next}
 use Rattle.iso8211.proofs.RecordLaws.{record-row}
 use Rattle.iso8211.proofs.Promise.{directory-length, fields-row}
-use Rattle.layout.specs.Layout.{filled, fieldLaid, mayEnd, laidFrom, layoutFault, contentOf, start}
+use Rattle.layout.specs.Layout.{filled, fieldLaid, mayEnd, layoutFault, contentOf, start}
 use Rattle.layout.specs.Record.{kindAt, contentAt}
 use Rattle.fieldvalue.specs.Value.{fieldFault, seenBefore, seenAfter, valuesFrom, valueFault}
 use Rattle.fieldvalue.specs.Judged.{FieldJudged, RecordJudged}

@@ -6,7 +6,7 @@ use mathlib.Core.Path.{_≡_}
 use lib.ListN.{length, take, drop}
 use Rattle.octets.specs.Digits.{numberAt}
 use Rattle.iso8211.specs.Leader.{sizeAt, baseAt}
-use Rattle.iso8211.specs.Directory.{tagAt, rowWidth}
+use Rattle.iso8211.specs.Directory.{tagAt}
 use Rattle.iso8211.specs.Record.{recordGood, inRow}
 use Rattle.iso8211.specs.Field.{countAt, directoryAt}
 use Rattle.layout.specs.Layout.{laidFrom, layoutFault}

@@ -1,5 +1,5 @@
 -- Both rows, the first alone, or none.
-use Rattle.recordfine.proofs.FrontLaws.{first-in, second-in, behind-start, behind-first, behind-second}
+use Rattle.recordfine.proofs.FrontLaws.{second-in, behind-start, behind-first, behind-second}
 use borrow.Author.Needs.{needs}
 use Rattle.recordfine.proofs.front.front.Statement.{statement}
 use Rattle.recordfine.proofs.front.front.Tie as tie

@@ -57,7 +57,8 @@ add-result-3 : tie.Need-add-result-3
 add-result-3 c = search needs
 
 returns-5 : tie.Need-returns-5
-returns-5 c = says-three (λ k. omega (arith, c .before .before .before .before .before .before .shared-slice-known .given k)) (search needs) (c .before .before .get12 .ensures) (search needs) (search needs) (search needs)
+returns-5 c = says-three (λ k. omega (arith, c .before .before .before .before .before .before .shared-slice-known .given k)) (search needs)
+    (c .before .before .get12 .ensures) (search needs) (search needs) (search needs)
 
 pub says-spec : {M : Type 1} → statement M
 says-spec =
