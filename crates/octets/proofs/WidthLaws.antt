@@ -4,7 +4,7 @@ use mathlib.Core.Bool.{Bool, true, false, cond, _||_}
 use mathlib.Core.List.{List}
 use mathlib.Core.Path.{_≡_, refl, sym, ap, _∙_}
 use mathlib.Core.Logic.{⊎-elim}
-use native.Mathlib.Nat.{add-zero, zero-add, suc-add, add-assoc, mul-assoc, mul-comm, mul-le-mul-right, pow-suc}
+use native.Mathlib.Nat.{add-zero, zero-add, suc-add, add-assoc, mul-assoc, mul-comm, pow-suc}
 use native.Mathlib.Omega.{arith}
 use lib.Dec.{ltb}
 use borrow.Author.Tests.{le-leb, ltb-false}
@@ -13,16 +13,13 @@ use Rattle.octets.specs.Digits.{isDigit, none, digitsFrom, numberAt}
 use Rattle.octets.specs.Premises.{Number, Sure}
 use Rattle.octets.proofs.Cases.{true-or-false}
 use Rattle.octets.proofs.Tests.{then-same, else-same}
-use Rattle.octets.specs.Told.{DigitTold, NumberTold, FiveTold, JoinedTold}
+use Rattle.octets.specs.Told.{DigitTold, NumberTold, FiveTold}
 
 pub digit-so : (s : List ℕ) (i b r : ℕ) → b ≡ byteAt s i → (r + 48) % 2 ^ 32 ≡ b → DigitTold s i r
 digit-so s i b r read wraps = record { told = λ few. sym read ∙ sym wraps ∙ (let e : (r + 48) % 2 ^ 32 ≡ 48 + r = omega arith in e) }
 
 pub number-none : {s : List ℕ} {i n r : ℕ} → r ≡ none → NumberTold s i n r
 number-none e = record { told = λ less. absurd (omega arith); most = omega arith }
-
-pub number-as : {s : List ℕ} {i n r : ℕ} (m : ℕ) → n ≡ m → NumberTold s i m r → NumberTold s i n r
-number-as m e number = rw e number
 
 -- ---- two flags that are off
 off : (a b : Bool) → (a || b) ≡ false → (a ≡ false) × (b ≡ false)
@@ -111,43 +108,12 @@ five-so {s} {i} {a} {b} x y =
       most = omega arith;
     }
 
-module _ {s : List ℕ} {i n a b r : ℕ} (x : NumberTold s i 2 a) where
-  pub four-join : NumberTold s (i + 2) 2 b → JoinedTold a b 100 r → n ≡ 4 → NumberTold s i n r
-  four-join y j e = rw e (record {
-    told = λ less.
-        let small = j .small less in
-        j .is less ∙ digits-join 2 2 s i a b (x .told (omega arith)) (omega arith) (y .told (omega arith)) (omega arith);
-    most = j .most;
-  })
-
-  pub five-join : NumberTold s (i + 2) 3 b → JoinedTold a b 1000 r → n ≡ 5 → NumberTold s i n r
-  five-join y j e = rw e (record {
-    told = λ less.
-        let small = j .small less in
-        j .is less ∙ digits-join 2 3 s i a b (x .told (omega arith)) (omega arith) (y .told (omega arith)) (omega arith);
-    most = j .most;
-  })
-
-pub joined-not : {led last scale r : ℕ} → r ≡ none → JoinedTold led last scale r
-joined-not e = record { small = λ less. absurd (omega arith); is = λ less. absurd (omega arith); most = omega arith }
-
--- a product of two bounded numbers
-pub product-most : (led scale : ℕ) → led ≤ 99 → scale ≤ 1000 → led * scale ≤ 99000
-product-most led scale a b = let step : led * scale ≤ 99 * scale = mul-le-mul-right scale a in omega arith
-
-pub joined-fits : (led scale : ℕ) → led ≤ 99 → scale ≤ 1000 → led * scale < 2 ^ 32
-joined-fits led scale a b = omega (arith, product-most led scale a b)
-
-pub joined-so : {led last scale : ℕ} → led ≤ 99 → last ≤ 999 → scale ≤ 1000 → JoinedTold led last scale (led * scale + last)
-joined-so {led} {last} {scale} a b c = record { small = λ less. (a, b); is = λ less. refl; most = omega (arith, product-most led scale a c) }
-
--- a number told one way is the number that is read
-pub number-told : {s : List ℕ} {i n r : ℕ} → NumberTold s i n r → r < none → Number s i n r
-number-told t less = record { is = t .told less; most = t .most }
-
 -- ---- a width that is one of those told apart
 pub sure-width : (s : List ℕ) (i n m : ℕ) → Sure s i n → n ≡ m → Sure s i m
 sure-width s i n m sure e = rw e at sure
+
+pub number-width : (s : List ℕ) (i n m r : ℕ) → Number s i m r → n ≡ m → Number s i n r
+number-width s i n m r number e = rw e number
 
 pub width-is : (s : List ℕ) (i n m r : ℕ) → r ≡ numberAt s i m → n ≡ m → r ≡ numberAt s i n
 width-is s i n m r is e = rw e is

@@ -1,5 +1,5 @@
 -- What reading digits one way answers. It serves the proofs, and nothing here need be believed. Assumes nothing.
-use Prim.Native.Nat.{ℕ, _+_, _*_, _≤_, _<_}
+use Prim.Native.Nat.{ℕ, _+_, _≤_, _<_}
 use mathlib.Core.List.{List}
 use mathlib.Core.Path.{_≡_}
 use Rattle.octets.specs.Digits.{none, numberAt}
@@ -18,9 +18,3 @@ pub record NumberTold (s : List ℕ) (i n r : ℕ) : Type 0 where
 pub record FiveTold (s : List ℕ) (i r : ℕ) : Type 0 where
   pub told : r ≤ 99999 → r ≡ numberAt s i 5
   pub most : r ≤ 1001000000000
-
--- two numbers joined, or none
-pub record JoinedTold (led last scale r : ℕ) : Type 0 where
-  pub small : r < none → (led ≤ 99) × (last ≤ 999)
-  pub is : r < none → r ≡ led * scale + last
-  pub most : r ≤ none

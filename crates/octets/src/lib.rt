@@ -15,7 +15,10 @@ pub use area::copy;
 // The decimal number in the n bytes from `at` on, or NONE where one of them is no digit.
 pub use digits::get_digits;
 
-// The same where the n bytes are known to be digits; and where n isn't known before.
+// The same where n isn't known before.
+pub use widths::digits_at;
+
+// Those that are known to be digits; and where n isn't known before.
 pub use digits::sure_digits;
 pub use widths::sure_at;
 

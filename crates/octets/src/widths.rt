@@ -1,11 +1,11 @@
-// Decimal digits in the widths that leaders and directories mostly have, read without a loop. Told one
-// way: where the answer is NONE, nothing is promised, but for `digits_at`.
+// Decimal digits in the widths that leaders and directories mostly have, read without a loop. Two, three and
+// five digits are told one way: where the answer says that there is no number, nothing is promised.
 ghost use Prim.Native.Nat.{_+_, _≤_, _<_};
 ghost use mathlib.Core.Path.{_≡_};
 ghost use lib.ListN.{length};
 ghost use Rattle.octets.specs.Digits.{none, numberAt};
 ghost use Rattle.octets.specs.Premises.{Number, Sure};
-ghost use Rattle.octets.specs.Told.{DigitTold, NumberTold, FiveTold, JoinedTold};
+ghost use Rattle.octets.specs.Told.{DigitTold, NumberTold, FiveTold};
 use crate::digits::NONE;
 use crate::digits::get_digits;
 use crate::digits::sure_digits;
@@ -55,56 +55,17 @@ pub fn five_digits(s: &[u8], i: usize) -> usize
     1000 * led + last
 }
 
-// The number in two digits and those behind them, for which `led` is multiplied by `scale`.
-fn joined(led: u32, last: u32, scale: u32) -> u32
-    requires { ⌜ scale ≤ 1000 ⌝ }
-    ensures { λ r. ⌜ JoinedTold led last scale r ⌝ }
-{
-    if 99 < led {
-        return NONE;
-    }
-    if 999 < last {
-        return NONE;
-    }
-    led * scale + last
-}
-
-// The number in the n digits from i on, in the widths that fewer records have.
-fn other_digits(s: &[u8], i: usize, n: usize) -> u32
-    requires { ⌜ (n ≤ 9) × (i + n ≤ length (now s)) ⌝ }
-    ensures { λ r. ⌜ NumberTold (now (s .entry)) i n r ⌝ }
-{
-    if n == 4 {
-        return joined(two_digits(s, i), two_digits(s, i + 2), 100);
-    }
-    if n == 5 {
-        return joined(two_digits(s, i), three_digits(s, i + 2), 1000);
-    }
-    NONE
-}
-
-// The number in the n digits from i on; NONE also in other widths than 2 to 5.
-pub fn number_at(s: &[u8], i: usize, n: usize) -> u32
-    requires { ⌜ (n ≤ 9) × (i + n ≤ length (now s)) ⌝ }
-    ensures { λ r. ⌜ NumberTold (now (s .entry)) i n r ⌝ }
-{
-    if n == 2 {
-        return two_digits(s, i);
-    }
-    if n == 3 {
-        return three_digits(s, i);
-    }
-    other_digits(s, i, n)
-}
-
-// The same as `get_digits`, for widths that aren't known before.
+// The same as `get_digits`, for widths that aren't known before: two and three are what most records have,
+// and these are read without a loop.
 pub fn digits_at(s: &[u8], at: usize, n: usize) -> u32
     requires { ⌜ (n ≤ 9) × (at + n ≤ length (now s)) ⌝ }
     ensures { λ r. ⌜ Number (now (s .entry)) at n r ⌝ }
 {
-    let r = number_at(s, at, n);
-    if r < NONE {
-        return r;
+    if n == 2 {
+        return get_digits(s, at, 2);
+    }
+    if n == 3 {
+        return get_digits(s, at, 3);
     }
     get_digits(s, at, n)
 }

@@ -11,9 +11,6 @@ use Rattle.octets.specs.Digits.{isDigit, digitsFrom, numberAt}
 use Rattle.octets.specs.Premises.{Number, Reads}
 use Rattle.octets.specs.Told.{FiveTold}
 
-pub digits-as : {s : List ℕ} {i n m r : ℕ} → Number s i m r → n ≡ m → Number s i n r
-digits-as told e = rw e told
-
 pub zero-first : (n : ℕ) (s : List ℕ) (i : ℕ) → byteAt s i ≡ 48 → numberAt s i (suc n) ≡ numberAt s (i + 1) n
 unfolding numberAt digitsFrom isDigit
 zero-first n s i e = rw e

@@ -4,23 +4,23 @@ use borrow.Author.Needs.{needs}
 use Rattle.recordfine.proofs.row.row_fine.Statement.{statement}
 use Rattle.recordfine.proofs.row.row_fine.Tie as tie
 
-add-near-digits : tie.Need-add-near-digits
-add-near-digits c = search needs
+add-digits-at : tie.Need-add-digits-at
+add-digits-at c = search needs
 
-near-digits-requires : tie.Need-near-digits-requires
-near-digits-requires c κs = search needs
+digits-at-requires : tie.Need-digits-at-requires
+digits-at-requires c κs = search needs
 
 cast-long : tie.Need-cast-long
 cast-long c = search needs
 
-add-near-digits-2 : tie.Need-add-near-digits-2
-add-near-digits-2 c = search needs
+add-digits-at-2 : tie.Need-add-digits-at-2
+add-digits-at-2 c = search needs
 
-add-near-digits-3 : tie.Need-add-near-digits-3
-add-near-digits-3 c = search needs
+add-digits-at-3 : tie.Need-add-digits-at-3
+add-digits-at-3 c = search needs
 
-near-digits-requires-2 : tie.Need-near-digits-requires-2
-near-digits-requires-2 c κs = search needs
+digits-at-requires-2 : tie.Need-digits-at-requires-2
+digits-at-requires-2 c κs = search needs
 
 cast-position : tie.Need-cast-position
 cast-position c = search needs
@@ -59,12 +59,12 @@ pub row-fine-spec : {M : Type 1} → statement M
 row-fine-spec =
     tie.close
     (tie.spec
-    add-near-digits
-    near-digits-requires
+    add-digits-at
+    digits-at-requires
     cast-long
-    add-near-digits-2
-    add-near-digits-3
-    near-digits-requires-2
+    add-digits-at-2
+    add-digits-at-3
+    digits-at-requires-2
     cast-position
     returns
     returns-2
