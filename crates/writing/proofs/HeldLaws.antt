@@ -102,17 +102,20 @@ module _ (s : List ℕ) (at r : ℕ) (w : Writable s at) (told : HeldTold s at r
 pub known-any : (s : List ℕ) (at r : ℕ) → ItemSized s at r → ItemKnown s at (record { size = r; same = false })
 known-any s at r sized = record { sized = sized; same = λ (e : false ≡ true). absurd (let z : _≡_ {A = ℕ} 0 1 = cc in omega arith) }
 
+pub front-same : (s : List ℕ) (at r : ℕ) (b : Bool) → HeldTold s at r → (r ≡ 0 → ⊥) → FrontTold s at r b → b ≡ true → Same s at
+front-same s at r b told ne front e =
+    let few = told .few in
+    record {
+      held = rw (front .read e) (told .is ne);
+      front = rw (front .read e) (front .is e);
+      few = rw (front .read e) few;
+    }
+
 pub known-held : (s : List ℕ) (at r : ℕ) (b : Bool) → Writable s at → ((i : ℕ) → byteAt s i < 256) → HeldTold s at r → (r ≡ 0 → ⊥) → FrontTold s at r b
     → ItemKnown s at (record { size = r; same = b })
 known-held s at r b w small told ne front = record {
   sized = held-sized s at r w told ne small;
-  same = λ (e : b ≡ true).
-      let few = told .few in
-      record {
-        held = rw (front .read e) (told .is ne);
-        front = rw (front .read e) (front .is e);
-        few = rw (front .read e) few;
-      };
+  same = front-same s at r b told ne front;
 }
 
 module _ (s : List ℕ) (at : ℕ) (w : Writable s at) (same : Same s at) where

@@ -93,6 +93,14 @@ fn put_any(s: &[u8], at: usize, h: Head, out: &mut [u8], place: usize, number: u
     put_lead(s, at + h.base + 3, body as usize - 3, out, a, number)
 }
 
+// The record of the item at `at` that is known to be the held form's, copied.
+pub fn put_copy(s: &[u8], at: usize, out: &mut [u8], place: usize, number: u32) -> usize
+    requires { ⌜ Writable (now s) at × Same (now s) at × (place + sizeOf (itemPieces number (itemAt (now s) at)) ≤ length (now out)) ⌝ }
+    ensures { λ r. ⌜ Wrote (now (out .entry)) place (recordBytes (itemPieces number (itemAt (now (s .entry)) at))) (now (out .exit)) r ⌝ }
+{
+    put_same(s, at, out, place, number)
+}
+
 // The record of the item at `at`, in held form.
 pub fn put_item(s: &[u8], at: usize, out: &mut [u8], place: usize, number: u32) -> usize
     requires { ⌜ Writable (now s) at × (place + sizeOf (itemPieces number (itemAt (now s) at)) ≤ length (now out)) ⌝ }
@@ -103,14 +111,9 @@ pub fn put_item(s: &[u8], at: usize, out: &mut [u8], place: usize, number: u32) 
     if size == 0 {
         return put_any(s, at, h, out, place, number);
     }
+    if is_front(s, at, size) {
+        return put_copy(s, at, out, place, number);
+    }
     let base = h.base;
     put_held(s, at, base, size, out, place, number)
-}
-
-// The same of a record that is known to be the held form's.
-pub fn put_copy(s: &[u8], at: usize, out: &mut [u8], place: usize, number: u32) -> usize
-    requires { ⌜ Writable (now s) at × Same (now s) at × (place + sizeOf (itemPieces number (itemAt (now s) at)) ≤ length (now out)) ⌝ }
-    ensures { λ r. ⌜ Wrote (now (out .entry)) place (recordBytes (itemPieces number (itemAt (now (s .entry)) at))) (now (out .exit)) r ⌝ }
-{
-    put_same(s, at, out, place, number)
 }

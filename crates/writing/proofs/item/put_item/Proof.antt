@@ -3,7 +3,7 @@ use Prim.Native.Nat.{ℕ, _<_}
 use native.Mathlib.Omega.{arith}
 use denote.Ref.{now}
 use Rattle.octets.specs.Number.{byteAt}
-use Rattle.writing.proofs.HeldLaws.{held-is, held-least, held-room, held-item}
+use Rattle.writing.proofs.HeldLaws.{front-same, held-is, held-least, held-room, held-item}
 use borrow.Author.Needs.{needs}
 use Rattle.writing.proofs.item.put_item.Statement.{statement}
 use Rattle.writing.proofs.item.put_item.Tie as tie
@@ -23,18 +23,30 @@ same-length c = search needs
 returns : tie.Need-returns
 returns c = search needs
 
-put-held-requires : tie.Need-put-held-requires
-put-held-requires c κs =
-    let start = c .before .before .before .before .before in
-    let small : (i : ℕ) → byteAt (now (start .before .args .s)) i < 256 = λ i. omega (arith, start .shared-slice-known .given i) in
-    (search needs, (search (needs, held-is), (search needs, (search (needs, held-least), search (needs, held-room)))))
+is-front-requires : tie.Need-is-front-requires
+is-front-requires c κs = search needs
+
+put-copy-requires : tie.Need-put-copy-requires
+put-copy-requires c κs = (search needs, search (needs, front-same), search needs)
 
 same-length-2 : tie.Need-same-length-2
 same-length-2 c = search needs
 
 returns-2 : tie.Need-returns-2
-returns-2 c =
-    let start = c .before .before .before .before .before .before .before .before in
+returns-2 c = search needs
+
+put-held-requires : tie.Need-put-held-requires
+put-held-requires c κs =
+    let start = c .before .before .before .before .before .before .before in
+    let small : (i : ℕ) → byteAt (now (start .before .args .s)) i < 256 = λ i. omega (arith, start .shared-slice-known .given i) in
+    (search needs, (search (needs, held-is), (search needs, (search (needs, held-least), search (needs, held-room)))))
+
+same-length-3 : tie.Need-same-length-3
+same-length-3 c = search needs
+
+returns-3 : tie.Need-returns-3
+returns-3 c =
+    let start = c .before .before .before .before .before .before .before .before .before .before in
     let small : (i : ℕ) → byteAt (now (start .before .args .s)) i < 256 = λ i. omega (arith, start .shared-slice-known .given i) in
     search (needs, held-item)
 
@@ -47,6 +59,10 @@ put-item-spec =
     put-any-requires
     same-length
     returns
-    put-held-requires
+    is-front-requires
+    put-copy-requires
     same-length-2
-    returns-2)
+    returns-2
+    put-held-requires
+    same-length-3
+    returns-3)
