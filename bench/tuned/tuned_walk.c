@@ -19,7 +19,9 @@ static bool editing;
 
 /* ---- rows of a directory, by the two sizes */
 
-enum { VECTOR_WORDS = 3, FEATURE_WORDS = 5, SMALL = 4, SIZES = 160 };
+/* SIZES: a form for every index that two half bytes can make. A leader's size is looked up by its low half once its high half is known to be 3, and such a byte needn't
+   be a digit: it may be one of : to ?. Those entries, and those of a size of 0, keep a width of 0, which refuses the record. */
+enum { VECTOR_WORDS = 3, FEATURE_WORDS = 5, SMALL = 4, SIZES = 256 };
 
 struct form {
     uint8_t lengths, positions, width;
