@@ -104,6 +104,48 @@ static void run_case(struct tally *tally, const struct loader *candidate, const 
     free(cell);
 }
 
+/* ---- the two sizes in a leader, as every pair of bytes of the high half 3, in every fourth record of a good cell: a reader that looks them up by their low halves
+   meets every pair of halves. A 0 or a byte behind the digits is bad framing; of other pairs nobody knows here. */
+
+static const char *const SIZES = "sizes in a leader: every pair of 0 to ?";
+
+static bool is_size(uint8_t byte)
+{
+    return byte >= '1' && byte <= '9';
+}
+
+static size_t record_length(const uint8_t *leader)
+{
+    size_t length = 0;
+    for (unsigned i = 0; i < 5; i++)
+        length = length * 10 + (leader[i] - (size_t)'0');
+    return length;
+}
+
+static void run_pairs(struct tally *tally, const struct loader *candidate, struct judge_case *made, uint8_t *sizes)
+{
+    const uint8_t before[] = {sizes[0], sizes[1]};
+    for (unsigned pair = 0; pair < 256; pair++) {
+        sizes[0] = (uint8_t)('0' + pair / 16);
+        sizes[1] = (uint8_t)('0' + pair % 16);
+        made->known = !is_size(sizes[0]) || !is_size(sizes[1]);
+        run_case(tally, candidate, made, pair);
+    }
+    memcpy(sizes, before, sizeof before);
+}
+
+static void run_sizes(struct tally *tally, const void *candidate)
+{
+    enum { SIZES_IN_LEADER = 20, EVERY = 4 };
+    struct judge_case made = judge_case_make(0);
+    made.kind = SIZES;
+    made.verdict = (struct answer){.code = CODE_FRAME, .file = 1};
+    for (size_t at = 0; at < made.cell.length; at += record_length(made.cell.bytes + at), made.verdict.record++)
+        if (made.verdict.record % EVERY == 0)
+            run_pairs(tally, candidate, &made, made.cell.bytes + at + SIZES_IN_LEADER);
+    buffer_free(&made.cell);
+}
+
 /* ---- all cases */
 
 static void run_seed(struct tally *tally, const void *candidate, uint64_t seed)
@@ -125,6 +167,7 @@ int run_judge_cases(const struct loader *candidate, int words, char **word)
     static const struct test test = {
         .seeds = 6000,
         .kinds = {{judge_kinds, judge_kind}, {heavy_cells, heavy_cell_name}},
+        .run_before = run_sizes,
         .run_seed = run_seed,
         .large_cases = heavy_cells,
         .run_large = run_large,
