@@ -19,7 +19,7 @@ use Rattle.iso8211.specs.Premises.{HeadOf}
 use Rattle.iso8211.specs.declared.field.Head.{Head}
 use Rattle.items.specs.Premises.{LaidOut}
 use Rattle.itemrows.specs.Plain.{PlainTold}
-use Rattle.asheld.specs.Held.{LongTold, Closed, ClosedTold, Narrow, NarrowTold, LastAt, LastEnd, Held, HeldTold, lastRow}
+use Rattle.asheld.specs.Held.{LongTold, ClosedTold, NarrowTold, LastAt, LastEnd, HeldTold, lastRow}
 use Rattle.asheld.proofs.RowLaws.{lengths-fewest, positions-fewest, row-sure, row-end, len-of, position-of}
 
 never : {A : Type 0} → false ≡ true → A

@@ -12,7 +12,7 @@ use Rattle.octets.proofs.AreaLaws.{wrote-join, wrote-as, wrote-length}
 use Rattle.octets.proofs.NumberLaws.{bytes-length}
 use Rattle.octets.proofs.DigitsLaws.{digits-length}
 use Rattle.iso8211.specs.Leader.{baseAt, lengthDigits, positionDigits}
-use Rattle.iso8211.specs.Directory.{rowWidth, rows}
+use Rattle.iso8211.specs.Directory.{rowWidth}
 use Rattle.iso8211.specs.Field.{countAt, directoryAt}
 use Rattle.items.specs.Premises.{LaidOut}
 use Rattle.records.specs.Written.{rowsBytes, leaderOf, headOver}

@@ -1,20 +1,17 @@
 -- Laws of the items that are seen to have no fault while the notes are put. Assumes nothing.
-use Prim.Native.Nat.{ℕ, _+_, _*_, _^_, _≤_, _<_}
+use Prim.Native.Nat.{ℕ, _+_, _^_, _≤_, _<_}
 use mathlib.Core.Bool.{Bool, true, false, not}
 use mathlib.Core.List.{List}
 use mathlib.Core.Logic.{⊎-elim, inl, inr}
-use mathlib.Core.Path.{_≡_, refl, sym, ap, _∙_}
+use mathlib.Core.Path.{_≡_, refl}
 use native.Mathlib.Omega.{arith}
-use lib.ListN.{length}
 use Rattle.words.specs.Words.{wordsIn, putAt}
-use Rattle.answers.specs.First.{firstBy}
 use Rattle.items.specs.Item.{Item}
-use Rattle.lookups.specs.LookupWords.{indexOf}
-use Rattle.quickvectors.specs.Quick.{FaultlessVector, NamesIn}
-use Rattle.topology.specs.Topology.{itemCode}
+use Rattle.quickvectors.specs.Quick.{NamesIn}
 use Rattle.topology.specs.Notes.{SeenTold}
 use Rattle.topology.specs.declared.seen.Seen.{Seen}
 use Rattle.topology.proofs.BesideLaws.{beside-words}
+use Rattle.topology.proofs.SeenLaws.{faultless-code}
 use Rattle.merge.specs.Places.{Headed}
 use Rattle.merge.specs.declared.walk.At.{At}
 use Rattle.merge.proofs.PlacesLaws.{places-start}
@@ -59,11 +56,6 @@ clearing-start comf {cell} {update} {work} {end} {count} {edits} c laid items ch
         });
   };
 }
-
--- an item without fault has no code
-faultless-code : (comf : ℕ) (ws : List ℕ) (object : ℕ → Bool) (node : ℕ → ℕ → ℕ) (i : Item) → FaultlessVector comf ws i → 0 ≡ itemCode comf (indexOf ws) object node i
-unfolding itemCode firstBy
-faultless-code comf ws object node i faultless = rw (faultless .shape, faultless .pointer object, faultless .ring node)
 
 module _ {cell update work : List ℕ} {end count edits i j : ℕ} {next : List ℕ} (walked : Walked cell update work end count edits i j next)
     (laid : Laid cell update work end count edits) where

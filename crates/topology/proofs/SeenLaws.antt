@@ -4,7 +4,7 @@ use mathlib.Core.Bool.{Bool, true, false, not}
 use mathlib.Core.List.{List}
 use mathlib.Core.Logic.{⊎-elim, inl, inr}
 use mathlib.Core.Path.{_≡_, refl, sym, ap, _∙_}
-use native.Mathlib.Nat.{zero-add, sub-zero}
+use native.Mathlib.Nat.{zero-add}
 use native.Mathlib.Numerals.{add-one}
 use native.Mathlib.Omega.{arith}
 use lib.ListN.{length, getD}
@@ -13,6 +13,7 @@ use Rattle.words.specs.Words.{wordAt, wordsIn}
 use Rattle.words.specs.Order.{Sorted}
 use Rattle.words.proofs.WordsLaws.{words-at, words-length}
 use Rattle.answers.specs.First.{firstBy}
+use Rattle.lookups.specs.LookupWords.{indexOf}
 use Rattle.items.specs.Word.{wordOffset}
 use Rattle.items.specs.Item.{Item, itemAt}
 use Rattle.iso8211.specs.declared.field.Head.{Head}
@@ -47,9 +48,9 @@ pub seen-vector : (s : List ℕ) (at rank : ℕ) (h : Head) (f : Front) (id due 
 seen-vector s at rank h f id due sp ranked told is = vector-in s at id sp (ranked .known) (vector-id s at h f told id due is) (vector-class s at h f told id due is)
 
 -- an item without fault has no code, whatever is said of FOIDs and nodes
-faultless-code : (comf : ℕ) (work : List ℕ) (m v : ℕ) (i : Item) → FaultlessVector comf (wordsIn work 0 m) i → 0 ≡ notedCode comf work m v i
+pub faultless-code : (comf : ℕ) (ws : List ℕ) (object : ℕ → Bool) (node : ℕ → ℕ → ℕ) (i : Item) → FaultlessVector comf ws i → 0 ≡ itemCode comf (indexOf ws) object node i
 unfolding itemCode firstBy
-faultless-code comf work m v i faultless = rw (faultless .shape, faultless .pointer _, faultless .ring _)
+faultless-code comf ws object node i faultless = rw (faultless .shape, faultless .pointer object, faultless .ring node)
 
 -- ---- how many are clear
 pub clear-same : (clear i : ℕ) (good : Bool) → ClearWith clear i good clear
@@ -109,7 +110,7 @@ module _ (comf : ℕ) (s work : List ℕ) (m v clear : ℕ) (so : ClearTo comf s
       let before = clear-steps k (omega arith) in
       rw (add-one k) at
       (fault-on (notedCode comf work m v) s work m k more (wordAt work k) refl (wordOffset (wordAt work k)) refl
-      (wordFault (notedCode comf work m v) s 3 (wordsIn work 0 m)) before 0 (faultless-code comf work m v (itemAt s (wordOffset (wordAt work k))) faultless) refl)
+      (wordFault (notedCode comf work m v) s 3 (wordsIn work 0 m)) before 0 (faultless-code comf (wordsIn work 0 m) _ _ (itemAt s (wordOffset (wordAt work k))) faultless) refl)
 
   pub clear-start : wordFault (notedCode comf work m v) s 3 (wordsIn work 0 m) ≡ wordFault (notedCode comf work m v) s (3 + clear) (wordsIn work clear (m - clear))
   clear-start = clear-steps clear (omega arith)
