@@ -12,10 +12,10 @@
 #include <stdint.h>
 
 /* The release. `make -C host version` writes it here, as the file VERSION has it. */
-#define S57LOADER_VERSION "1.0.0"
+#define S57LOADER_VERSION "1.0.1"
 #define S57LOADER_VERSION_MAJOR 1
 #define S57LOADER_VERSION_MINOR 0
-#define S57LOADER_VERSION_PATCH 0
+#define S57LOADER_VERSION_PATCH 1
 
 #ifdef __cplusplus
 extern "C" {
