@@ -22,6 +22,7 @@ use Rattle.spans.specs.declared.Front.{Front}
 use Rattle.spans.specs.declared.Front.the-variants.{Vector}
 use Rattle.spans.specs.declared.Spans.{Spans}
 use Rattle.quickvectors.specs.Quick.{FaultlessVector, VectorTold, VectorIn, NamesIn}
+use Rattle.quickvectors.proofs.CoordinateLaws.{never}
 use Rattle.quickvectors.proofs.VectorLaws.{vector-in}
 use Rattle.topology.proofs.QuickLaws.{vector-id, vector-class}
 use Rattle.topology.specs.Topology.{itemCode}
@@ -32,9 +33,6 @@ use Rattle.topology.proofs.NotesLaws.{Filed}
 use Rattle.topology.proofs.TopologyLaws.{fault-start, fault-on}
 
 -- ---- one item
-never : {A : Type 0} → false ≡ true → A
-never e = absurd (let z : _≡_ {A = ℕ} 0 1 = cc in omega arith)
-
 -- of which only the note is known
 pub seen-note : (comf : ℕ) (ws : List ℕ) (i : Item) (r : Seen) → r .note ≡ noteFor i → r .clear ≡ false → SeenTold comf ws i r
 seen-note comf ws i r told none = record { note = told; clear = λ (e : r .clear ≡ true). never (sym none ∙ e) }
