@@ -1,5 +1,5 @@
 -- Laws of the first rows of a record, whose numbers are compared. Assumes nothing.
-use Prim.Native.Nat.{ℕ, _+_, _-_, _*_, _≤_, _<_}
+use Prim.Native.Nat.{ℕ, suc, _+_, _-_, _*_, _/_, _%_, _≤_, _<_}
 use mathlib.Core.Bool.{Bool, true, false, not}
 use mathlib.Core.List.{List}
 use mathlib.Core.Path.{_≡_, refl, sym, _∙_}
@@ -14,12 +14,13 @@ use Rattle.octets.specs.Premises.{Reads}
 use Rattle.iso8211.specs.Directory.{tagAt}
 use Rattle.iso8211.specs.Field.{countAt}
 use Rattle.fieldfine.specs.Told.{contentIn}
-use Rattle.fieldfine.specs.Place.{PlainField}
+use Rattle.fieldfine.specs.Place.{SingleField, PlainField}
 use Rattle.fieldfine.proofs.PlaceLaws.{single-so}
-use Rattle.fieldfine.proofs.FieldLaws.{field-first, field-plain}
+use Rattle.fieldfine.proofs.FieldLaws.{field-first, field-foid, field-plain}
 use Rattle.recordfine.specs.declared.open.Open.{Open}
+use Rattle.recordfine.specs.declared.front.Next.{Next}
 use Rattle.recordfine.specs.Premises.{OpenAt}
-use Rattle.recordfine.specs.Walk.{Passed, RowIn, SaysTold, RowIs, FrontTold, Behind}
+use Rattle.recordfine.specs.Walk.{RowIn, SaysTold, RowIs, FrontTold, Behind, pastFirst}
 use Rattle.recordfine.proofs.DigitLaws.{zero-first, one-digit, two-digits}
 use Rattle.recordfine.proofs.WalkLaws.{passed-start, passed-on, second-room, whole-rows}
 
@@ -30,7 +31,8 @@ never e = absurd (let z : _≡_ {A = ℕ} 0 1 = cc in omega arith)
 pub says-not : {s : List ℕ} {i n v : ℕ} → SaysTold s i n v false
 says-not = record { told = λ e. never e }
 
-pub says-two : {s : List ℕ} {i n v r : ℕ} → ((k : ℕ) → byteAt s k < 256) → v ≤ 9 → Reads s i 2 r → n ≡ 2 → SaysTold s i n v (eqb r (12336 + 256 * v))
+pub says-two : {s : List ℕ} {i n v r : ℕ} → ((k : ℕ) → byteAt s k < 256) → v ≤ 99 → Reads s i 2 r → n ≡ 2
+    → SaysTold s i n v (eqb r (12336 + v / 10 + 256 * (v % 10)))
 says-two {s} {i} {n} {v} {r} below few read e = record { told = λ same. rw e (two-digits s i v r below few read (eqb-true _ _ same)) }
 
 pub says-one : {s : List ℕ} {i n v r : ℕ} → v ≤ 9 → Reads s i 1 r → n ≡ 1 → SaysTold s i n v (eqb r (48 + v))
@@ -42,8 +44,8 @@ says-one {s} {i} {n} {v} {r} few read e = record {
       rw e (one-digit s i v (omega arith) few);
 }
 
-pub says-three : {s : List ℕ} {i n v q r : ℕ} → ((k : ℕ) → byteAt s k < 256) → v ≤ 9 → Reads s i 1 q → q ≡ 48 → Reads s (i + 1) 2 r → n ≡ 3
-    → SaysTold s i n v (eqb r (12336 + 256 * v))
+pub says-three : {s : List ℕ} {i n v q r : ℕ} → ((k : ℕ) → byteAt s k < 256) → v ≤ 99 → Reads s i 1 q → q ≡ 48 → Reads s (i + 1) 2 r → n ≡ 3
+    → SaysTold s i n v (eqb r (12336 + v / 10 + 256 * (v % 10)))
 unfolding numAt
 says-three {s} {i} {n} {v} {q} {r} below few first zero read e = record {
   told = λ same.
@@ -81,40 +83,52 @@ inside s from long fits =
     let size : length (take long (drop from s)) ≡ long = length-take-le long (drop from s) (rw length-drop (omega arith)) in
     rw (e, size, take-take (long - 1) long (drop from s) (omega arith))
 
-pub first-so : {marks s : List ℕ} {i : ℕ} {h : Open} (x : ℕ) (a : Bool) → RowIs s i h 808464433 0 3 a → not a ≡ false → RowIn s i h → x ≡ getD marks 18 0
-    → (update : Bool) (stage : ℕ) → FrontTold update stage marks s i h 20 808464433 0 3 18 (eqb x 1)
-first-so {marks} {s} {i} {h} x a told p room read update stage =
+-- of a fixed length, its values without rules: it is declared
+marked-so : {update : Bool} {stage : ℕ} {marks s : List ℕ} {i : ℕ} {h : Open} {prev tag due long k : ℕ} (x : ℕ) (a : Bool) → RowIs s i h tag due long a → not a ≡ false
+    → RowIn s i h → x ≡ getD marks k 0 → ((c : List ℕ) → SingleField (length c) (long - 1) marks prev prev k k → PlainField update stage marks prev tag c k)
+    → FrontTold update stage marks s i h prev tag due long k (eqb x 1)
+marked-so {s = s} {h = h} {due = due} {long = long} x a told p room read field =
     let so = not-false a p in
     let within = told .row so .within in
     let high = room .room in
     let fits = room .fits in
-    let is : contentIn (take (h .body + 0 + 3 - (h .body + 0)) (drop (h .body + 0) s)) ≡ take 2 (drop (h .body + 0) s) = inside s (h .body + 0) 3 (omega arith) in
-    let size : length (take 2 (drop (h .body + 0) s)) ≡ 2 = length-take-le 2 (drop (h .body + 0) s) (rw length-drop (omega arith)) in
+    let from = h .body + due in
+    let size : length (contentIn (take (from + long - from) (drop from s))) ≡ long - 1 =
+    rw (inside s from long (omega arith)) (length-take-le (long - 1) (drop from s) (rw length-drop (omega arith))) in
     record {
       is = record { tagged = λ e. told .tagged so; row = λ e. told .row so };
-      fine = λ e. rw is (field-first refl (single-so size refl (sym read ∙ eqb-true _ _ e)));
+      fine = λ e. field _ (single-so size refl (sym read ∙ eqb-true _ _ e));
     }
 
-pub second-end : {s : List ℕ} {i : ℕ} {h : Open} (a : Bool) → RowIs s i h 1448233284 3 9 a → not a ≡ false → RowIn s i h → h .body + 3 + 8 ≤ length s
-second-end a told p room =
+module _ {marks s : List ℕ} {i : ℕ} {h : Open} (x : ℕ) (a : Bool) where
+  pub first-so : RowIs s i h 808464433 0 3 a → not a ≡ false → RowIn s i h → x ≡ getD marks 18 0
+      → (update : Bool) (stage : ℕ) → FrontTold update stage marks s i h 20 808464433 0 3 18 (eqb x 1)
+  first-so told p room read update stage = marked-so x a told p room read (λ c f. field-first refl f)
+
+  pub foid-so : RowIs s i h 1179601220 16 9 a → not a ≡ false → RowIn s i h → x ≡ getD marks 11 0
+      → (update : Bool) (stage : ℕ) → FrontTold update stage marks s i h 10 1179601220 16 9 11 (eqb x 1)
+  foid-so told p room read update stage = marked-so x a told p room read (λ c f. field-foid refl refl f)
+
+-- its values with rules: its content ends in the file, and is judged
+pub content-end : {s : List ℕ} {i : ℕ} {h : Open} {tag due n : ℕ} (a : Bool) → RowIs s i h tag due (suc n) a → not a ≡ false → RowIn s i h → h .body + due + n ≤ length s
+content-end a told p room =
     let within = told .row (not-false a p) .within in
     let high = room .room in
     let fits = room .fits in
     omega arith
 
-pub second-so : {update : Bool} {stage : ℕ} {marks s : List ℕ} {i : ℕ} {h : Open} (k : ℕ) (a : Bool) → RowIs s i h 1448233284 3 9 a → not a ≡ false → RowIn s i h
-    → PlainField update stage marks 18 1448233284 (take (h .body + 3 + 8 - (h .body + 3)) (drop (h .body + 3) s)) k → ((k ≡ 20 → ⊥) → k ≡ 3)
-    → FrontTold update stage marks s i h 18 1448233284 3 9 3 (not (eqb k 20))
-second-so {update} {stage} {marks} {s} {i} {h} k a told p room fine kind =
+pub ruled-so : {update : Bool} {stage : ℕ} {marks s : List ℕ} {i : ℕ} {h : Open} {prev tag due long kind : ℕ} (k : ℕ) (a : Bool) → RowIs s i h tag due long a → not a ≡ false
+    → RowIn s i h → PlainField update stage marks prev tag (take (h .body + due + (long - 1) - (h .body + due)) (drop (h .body + due) s)) k → ((k ≡ 20 → ⊥) → k ≡ kind)
+    → FrontTold update stage marks s i h prev tag due long kind (not (eqb k 20))
+ruled-so {s = s} {h = h} {due = due} {long = long} k a told p room fine is =
     let so = not-false a p in
     let within = told .row so .within in
     let high = room .room in
     let fits = room .fits in
-    let is : contentIn (take (h .body + 3 + 9 - (h .body + 3)) (drop (h .body + 3) s)) ≡ take 8 (drop (h .body + 3) s) = inside s (h .body + 3) 9 (omega arith) in
-    let n : h .body + 3 + 8 - (h .body + 3) ≡ 8 = omega arith in
+    let n : h .body + due + (long - 1) - (h .body + due) ≡ long - 1 = omega arith in
     record {
       is = record { tagged = λ e. told .tagged so; row = λ e. told .row so };
-      fine = λ e. rw is (rw (n, kind (eqb-false _ _ (not-true _ e))) at fine);
+      fine = λ e. rw (inside s (h .body + due) long (omega arith)) (rw (n, is (eqb-false _ _ (not-true _ e))) at fine);
     }
 
 -- ---- where the walk stands behind them
@@ -127,32 +141,44 @@ module _ {s : List ℕ} {at : ℕ} {h : Open} (o : OpenAt s at h) where
   pub second-in : RowIn s (at + 24 + (4 + h .lengths + h .positions)) h
   second-in = record { row = second-room o; room = o .room; fits = o .fits; slim = o .slim }
 
-  front-on : {update : Bool} {stage : ℕ} {marks : List ℕ} {aall nall : ℕ} {before t : List ℕ} {i prev stamp due tag long k : ℕ} {r : Bool}
-      → Passed update stage marks aall nall s at (4 + h .lengths + h .positions) before t i prev stamp due → i < h .body - 1
-      → FrontTold update stage marks s i h prev tag due long k r → r ≡ true → (k ≡ 20 → ⊥) → eqb prev k ≡ false
-      → Passed update stage marks aall nall s at (4 + h .lengths + h .positions) before t (i + (4 + h .lengths + h .positions)) k i (due + long)
-  front-on so less told r good apart =
-      let some = told .is .row r .some in
-      passed-on so o less (record { told = λ x. told .is .row r }) (λ z. omega arith) (told .is .tagged r) (field-plain (told .fine r)) good (rw apart)
+  -- one row more
+  behind-on : {update : Bool} {stage : ℕ} {marks : List ℕ} {n : Next} {tag long k : ℕ} {r : Bool} → Behind update stage marks s at h n → n .row < h .body - 1
+      → FrontTold update stage marks s (n .row) h (n .prev) tag (n .due) long k r → r ≡ true → (k ≡ 20 → ⊥) → eqb (n .prev) k ≡ false
+      → Behind update stage marks s at h (record { row = n .row + (4 + h .lengths + h .positions); prev = k; stamp = n .row; due = n .due + long })
+  behind-on so less told r good apart =
+      let row = told .is .row r in
+      let some = row .some in
+      record {
+        passed = λ aall nall t.
+            passed-on (so .passed aall nall t) o less (record { told = λ x. row }) (λ z. omega arith) (told .is .tagged r) (field-plain (told .fine r)) good (rw apart);
+        within = row .within;
+      }
 
   pub behind-start : (update : Bool) (stage : ℕ) (marks : List ℕ) → Behind update stage marks s at h (record { row = at + 24; prev = 20; stamp = at; due = 0 })
   behind-start update stage marks = record { passed = λ aall nall t. passed-start update stage marks aall nall _ t o; within = omega arith }
 
-  module _ {marks : List ℕ} (a : Bool) (first : (update : Bool) (stage : ℕ) → FrontTold update stage marks s (at + 24) h 20 808464433 0 3 18 a) (p : not a ≡ false) where
-    pub behind-first : (update : Bool) (stage : ℕ)
-        → Behind update stage marks s at h (record { row = at + 24 + (4 + h .lengths + h .positions); prev = 18; stamp = at + 24; due = 3 })
-    behind-first update stage =
-        let less = two-rows in
-        record {
-          passed = λ aall nall t. front-on (passed-start update stage marks aall nall _ t o) (omega arith) (first update stage) (not-false a p) (λ z. omega arith) refl;
-          within = first update stage .is .row (not-false a p) .within;
-        }
+  pub behind-first : {marks : List ℕ} (a : Bool) → ((update : Bool) (stage : ℕ) → FrontTold update stage marks s (at + 24) h 20 808464433 0 3 18 a) → not a ≡ false
+      → (update : Bool) (stage : ℕ) → Behind update stage marks s at h (pastFirst at h)
+  behind-first {marks} a first p update stage =
+      let less = two-rows in
+      behind-on (behind-start update stage marks) (omega arith) (first update stage) (not-false a p) (λ z. omega arith) refl
 
-    pub behind-second : {update : Bool} {stage : ℕ} (b : Bool)
-        → FrontTold update stage marks s (at + 24 + (4 + h .lengths + h .positions)) h 18 1448233284 3 9 3 b → not b ≡ false
-        → Behind update stage marks s at h
+  module _ {update : Bool} {stage : ℕ} {marks : List ℕ} (so : Behind update stage marks s at h (pastFirst at h)) (a : Bool) where
+    pub behind-vrid : FrontTold update stage marks s (at + 24 + (4 + h .lengths + h .positions)) h 18 1448233284 3 9 3 a → not a ≡ false → Behind update stage marks s at h
         (record { row = at + 24 + (4 + h .lengths + h .positions) + (4 + h .lengths + h .positions); prev = 3; stamp = at + 24 + (4 + h .lengths + h .positions); due = 12 })
-    behind-second {update} {stage} b second q = record {
-      passed = λ aall nall t. front-on (behind-first update stage .passed aall nall t) two-rows second (not-false b q) (λ z. omega arith) refl;
-      within = second .is .row (not-false b q) .within;
-    }
+    behind-vrid told p = behind-on so two-rows told (not-false a p) (λ z. omega arith) refl
+
+    module _ (told : FrontTold update stage marks s (at + 24 + (4 + h .lengths + h .positions)) h 18 1179797828 3 13 10 a) (p : not a ≡ false) where
+      pub behind-frid : Behind update stage marks s at h
+          (record { row = at + 24 + (4 + h .lengths + h .positions) + (4 + h .lengths + h .positions); prev = 10; stamp = at + 24 + (4 + h .lengths + h .positions); due = 16 })
+      behind-frid = behind-on so two-rows told (not-false a p) (λ z. omega arith) refl
+
+      pub behind-foid : (b : Bool) → at + 24 + (4 + h .lengths + h .positions) + (4 + h .lengths + h .positions) + (4 + h .lengths + h .positions) < h .body
+          → ((update : Bool) (stage : ℕ) → FrontTold update stage marks s (at + 24 + (4 + h .lengths + h .positions) + (4 + h .lengths + h .positions)) h 10 1179601220 16 9 11 b)
+          → not b ≡ false → Behind update stage marks s at h (record {
+            row = at + 24 + (4 + h .lengths + h .positions) + (4 + h .lengths + h .positions) + (4 + h .lengths + h .positions);
+            prev = 11;
+            stamp = at + 24 + (4 + h .lengths + h .positions) + (4 + h .lengths + h .positions);
+            due = 25;
+          })
+      behind-foid b less foid q = behind-on behind-frid (omega arith) (foid update stage) (not-false b q) (λ z. omega arith) refl

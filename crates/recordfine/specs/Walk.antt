@@ -64,3 +64,7 @@ pub record FrontTold (update : Bool) (stage : ℕ) (marks s : List ℕ) (i : ℕ
 pub record Behind (update : Bool) (stage : ℕ) (marks s : List ℕ) (at : ℕ) (h : Open) (n : Next) : Type 0 where
   pub passed : (aall nall : ℕ) (t : List ℕ) → Passed update stage marks aall nall s at (4 + h .lengths + h .positions) t t (n .row) (n .prev) (n .stamp) (n .due)
   pub within : n .due ≤ h .end - h .body
+
+-- where it stands behind a first field of three bytes
+abbrev pub pastFirst : ℕ → Open → Next
+pastFirst at h = record { row = at + 24 + (4 + h .lengths + h .positions); prev = 18; stamp = at + 24; due = 3 }

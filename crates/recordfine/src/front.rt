@@ -1,14 +1,15 @@
-// The front of a record: nearly every one begins with a 0001 of three bytes, and most go on with a VRID of
-// nine. The numbers of these two rows are compared here, not computed. Told one way: where the rows are
-// others, the walk begins with them.
+// The front of a record: nearly every one begins with a 0001 of three bytes, and goes on with a VRID of
+// nine, or with a FRID of thirteen and a FOID of nine. The numbers of these rows are compared here, not
+// computed. Told one way: where the rows are others, the walk begins with them.
 ghost use Prim.Native.Nat.{ℕ, _+_, _≤_};
 ghost use mathlib.Core.Bool.{Bool};
 ghost use mathlib.Core.Path.{_≡_};
 ghost use lib.ListN.{length};
 ghost use Rattle.answers.specs.Codes.{mostBytes};
 ghost use Rattle.recordfine.specs.Premises.{OpenAt};
-ghost use Rattle.recordfine.specs.Walk.{RowIn, SaysTold, RowIs, FrontTold, Behind};
+ghost use Rattle.recordfine.specs.Walk.{RowIn, SaysTold, RowIs, FrontTold, Behind, pastFirst};
 use crate::open::Open;
+use fieldfine::single::frid_field;
 use fieldfine::single::vrid_field;
 use iso8211::directory::tag_at;
 use layout::place::START;
@@ -26,30 +27,35 @@ pub struct Next {
     pub due: usize,
 }
 
-// Whether the n digits from i on, in the widths that most records have, say v, which is one digit.
+// Whether the n digits from i on, in the widths that most records have, say v, which has two digits at
+// most.
 fn says(s: &[u8], i: usize, n: usize, v: usize) -> bool
-    requires { ⌜ (v ≤ 9) × (n ≤ 9) × (i + n ≤ length (now s)) ⌝ }
+    requires { ⌜ (v ≤ 99) × (n ≤ 9) × (i + n ≤ length (now s)) ⌝ }
     ensures { λ r. ⌜ SaysTold (now (s .entry)) i n v r ⌝ }
 {
+    let two = 12336 + v / 10 + 256 * (v % 10);
     if n == 2 {
-        return get2(s, i) as usize == 12336 + 256 * v;
+        return get2(s, i) as usize == two;
     }
-    if n == 1 {
-        return get1(s, i) as usize == 48 + v;
+    if n == 3 {
+        if get1(s, i) != 48 {
+            return false;
+        }
+        return get2(s, i + 1) as usize == two;
     }
-    if n != 3 {
+    if n != 1 {
         return false;
     }
-    if get1(s, i) != 48 {
+    if 9 < v {
         return false;
     }
-    get2(s, i + 1) as usize == 12336 + 256 * v
+    get1(s, i) as usize == 48 + v
 }
 
 // Whether the row at i is that of a field of this tag and length, due at `due`, and the field is framed
 // well.
 fn row_is(s: &[u8], i: usize, h: Open, tag: u32, due: usize, long: usize) -> bool
-    requires { ⌜ RowIn (now s) i h × (due ≤ 9) × (1 ≤ long) × (long ≤ 9) ⌝ }
+    requires { ⌜ RowIn (now s) i h × (due ≤ 99) × (1 ≤ long) × (long ≤ 99) ⌝ }
     ensures { λ r. ⌜ RowIs (now (s .entry)) i h tag due long r ⌝ }
 {
     if tag_at(s, i) != tag {
@@ -79,7 +85,7 @@ fn first_fine(s: &[u8], i: usize, h: Open, marks: &[u8]) -> bool
 }
 
 // Whether the row at i is that of a VRID behind its 0001, and the field is fine.
-fn second_fine(s: &[u8], i: usize, h: Open, marks: &[u8], update: bool, stage: usize) -> bool
+fn vrid_fine(s: &[u8], i: usize, h: Open, marks: &[u8], update: bool, stage: usize) -> bool
     requires { ⌜ RowIn (now s) i h × (length (now marks) ≡ 20) ⌝ }
     ensures { λ r. ⌜ FrontTold update stage (now (marks .entry)) (now (s .entry)) i h 18 1448233284 3 9 3 r ⌝ }
 {
@@ -91,12 +97,73 @@ fn second_fine(s: &[u8], i: usize, h: Open, marks: &[u8], update: bool, stage: u
     vrid_field(&s[from..to], marks, kinds::FIRST, stage, update) != START
 }
 
+// Whether the row at i is that of a FRID behind its 0001, and the field is fine.
+fn frid_fine(s: &[u8], i: usize, h: Open, marks: &[u8], update: bool, stage: usize) -> bool
+    requires { ⌜ RowIn (now s) i h × (length (now marks) ≡ 20) ⌝ }
+    ensures { λ r. ⌜ FrontTold update stage (now (marks .entry)) (now (s .entry)) i h 18 1179797828 3 13 10 r ⌝ }
+{
+    if !row_is(s, i, h, tags::FRID, 3, 13) {
+        return false;
+    }
+    let from = h.body + 3;
+    let to = from + 12;
+    frid_field(&s[from..to], marks, kinds::FIRST, stage, update) != START
+}
+
+// Whether the row at i is that of a FOID behind its FRID that is fine.
+fn foid_fine(s: &[u8], i: usize, h: Open, marks: &[u8]) -> bool
+    requires { ⌜ RowIn (now s) i h × (length (now marks) ≡ 20) ⌝ }
+    ensures { λ r. ⌜ ((update : Bool) (stage : ℕ) → FrontTold update stage (now (marks .entry)) (now (s .entry)) i h 10 1179601220 16 9 11 r) ⌝ }
+{
+    if !row_is(s, i, h, tags::FOID, 16, 9) {
+        return false;
+    }
+    marks[kinds::FOID] == 1
+}
+
+// Where the walk over the record at `at`, its 0001 passed, stands behind a FRID and a FOID. A third row
+// need not be there.
+fn feature_front(s: &[u8], at: usize, h: Open, marks: &[u8], update: bool, stage: usize) -> Next
+    requires { ⌜ OpenAt (now s) at h × (length (now s) ≤ mostBytes) × (length (now marks) ≡ 20) × Behind update stage (now marks) (now s) at h (pastFirst at h) ⌝ }
+    ensures { λ r. ⌜ Behind update stage (now (marks .entry)) (now (s .entry)) at h r ⌝ }
+{
+    let w = 4 + h.lengths + h.positions;
+    let i = at + 24;
+    let j = i + w;
+    if !frid_fine(s, j, h, marks, update, stage) {
+        return Next {
+            row: j,
+            prev: kinds::FIRST,
+            stamp: i as u32,
+            due: 3,
+        };
+    }
+    let k = j + w;
+    let n = Next {
+        row: k,
+        prev: kinds::FRID,
+        stamp: j as u32,
+        due: 16,
+    };
+    if h.body <= k + w {
+        return n;
+    }
+    if !foid_fine(s, k, h, marks) {
+        return n;
+    }
+    Next {
+        row: k + w,
+        prev: kinds::FOID,
+        stamp: k as u32,
+        due: 25,
+    }
+}
+
 // Where the walk over the record at `at` stands behind its front.
 pub fn front(s: &[u8], at: usize, h: Open, marks: &[u8], update: bool, stage: usize) -> Next
     requires { ⌜ OpenAt (now s) at h × (length (now s) ≤ mostBytes) × (length (now marks) ≡ 20) ⌝ }
     ensures { λ r. ⌜ Behind update stage (now (marks .entry)) (now (s .entry)) at h r ⌝ }
 {
-    let w = 4 + h.lengths + h.positions;
     let i = at + 24;
     if !first_fine(s, i, h, marks) {
         return Next {
@@ -106,14 +173,10 @@ pub fn front(s: &[u8], at: usize, h: Open, marks: &[u8], update: bool, stage: us
             due: 0,
         };
     }
+    let w = 4 + h.lengths + h.positions;
     let j = i + w;
-    if !second_fine(s, j, h, marks, update, stage) {
-        return Next {
-            row: j,
-            prev: kinds::FIRST,
-            stamp: i as u32,
-            due: 3,
-        };
+    if !vrid_fine(s, j, h, marks, update, stage) {
+        return feature_front(s, at, h, marks, update, stage);
     }
     Next {
         row: j + w,

@@ -1,9 +1,9 @@
 -- The row, and then its field.
-use Rattle.recordfine.proofs.FrontLaws.{front-not, second-end, second-so}
+use Rattle.recordfine.proofs.FrontLaws.{front-not, content-end, ruled-so}
 use Rattle.fieldfine.proofs.FieldLaws.{field-vrid}
 use borrow.Author.Needs.{needs}
-use Rattle.recordfine.proofs.front.second_fine.Statement.{statement}
-use Rattle.recordfine.proofs.front.second_fine.Tie as tie
+use Rattle.recordfine.proofs.front.vrid_fine.Statement.{statement}
+use Rattle.recordfine.proofs.front.vrid_fine.Tie as tie
 
 row-is-requires : tie.Need-row-is-requires
 row-is-requires c κs = search needs
@@ -24,16 +24,16 @@ part-vrid-field-start : tie.Need-part-vrid-field-start
 part-vrid-field-start c = search needs
 
 part-vrid-field-end : tie.Need-part-vrid-field-end
-part-vrid-field-end c = search (needs, second-end)
+part-vrid-field-end c = search (needs, content-end)
 
 vrid-field-requires : tie.Need-vrid-field-requires
 vrid-field-requires c κs = search needs
 
 returns-2 : tie.Need-returns-2
-returns-2 c = search (needs, second-so, field-vrid)
+returns-2 c = search (needs, ruled-so, field-vrid)
 
-pub second-fine-spec : {M : Type 1} → statement M
-second-fine-spec =
+pub vrid-fine-spec : {M : Type 1} → statement M
+vrid-fine-spec =
     tie.close
     (tie.spec
     row-is-requires
