@@ -13,6 +13,8 @@ use iso8211::field::Head;
 use items::Next;
 use items::cursor::begin;
 use items::step::next;
+use lookups::starts::Starts;
+use lookups::starts::starts_of;
 use pointer::names_code;
 use step::Taken;
 use step::step_of;
@@ -45,7 +47,15 @@ pub fn usage_good(exterior: bool, usage: u32) -> bool
 
 // Whether every edge of the area at `at` is there and they run in closed rings. In a ring t is the
 // edge before the cursor.
-fn rings_closed(s: &[u8], at: usize, h: Head, work: &[u8], m: usize, v: usize) -> bool
+fn rings_closed(
+    s: &[u8],
+    at: usize,
+    h: Head,
+    work: &[u8],
+    m: usize,
+    v: usize,
+    starts: Starts,
+) -> bool
     requires { ⌜ Listed (now s) at h FSPT × Noted (now work) m v ⌝ }
     ensures { λ r. ⌜ r ≡ areaClosed (indexOf (wordsIn (now (work .entry)) 0 m)) (nodeAt (wordsIn (now (work .entry)) 0 m) (wordsIn (now (work .entry)) m v))
         (entriesAt (now (s .entry)) at FSPT) ⌝ }
@@ -56,7 +66,7 @@ fn rings_closed(s: &[u8], at: usize, h: Head, work: &[u8], m: usize, v: usize) -
         let Next::Entry(from, to, after) = next(s, at, h, kinds::FSPT, c) else {
             return true;
         };
-        let Taken::Edge(first) = step_of(&s[from..to], work, m, v) else {
+        let Taken::Edge(first) = step_of(&s[from..to], work, m, v, starts) else {
             break 'rings;
         };
         let start = first.from;
@@ -73,7 +83,7 @@ fn rings_closed(s: &[u8], at: usize, h: Head, work: &[u8], m: usize, v: usize) -
             let Next::Entry(from, to, after) = next(s, at, h, kinds::FSPT, c) else {
                 break 'rings;
             };
-            let Taken::Edge(u) = step_of(&s[from..to], work, m, v) else {
+            let Taken::Edge(u) = step_of(&s[from..to], work, m, v, starts) else {
                 break 'rings;
             };
             if u.from != t.to {
@@ -93,7 +103,8 @@ pub fn area_code(s: &[u8], at: usize, h: Head, work: &[u8], m: usize, v: usize) 
     ensures { λ r. ⌜ r ≡ areaCode (indexOf (wordsIn (now (work .entry)) 0 m)) (nodeAt (wordsIn (now (work .entry)) 0 m) (wordsIn (now (work .entry)) m v))
         (entriesAt (now (s .entry)) at FSPT) ⌝ }
 {
-    if rings_closed(s, at, h, work, m, v) {
+    let starts = starts_of(work, m);
+    if rings_closed(s, at, h, work, m, v, starts) {
         return 0;
     }
     let missing = names_code(s, at, h, kinds::FSPT, work, m, v);

@@ -6,8 +6,10 @@ ghost use Rattle.words.specs.Words.{wordsIn};
 ghost use Rattle.lookups.specs.LookupWords.{indexOf};
 use items::word;
 use lookups::lookup::Found;
-use lookups::lookup::index_of;
+use lookups::lookup::index_near;
 use lookups::lookup::name_in;
+use lookups::starts::Starts;
+use lookups::starts::start_for;
 use octets::number::wide;
 use table::offsets;
 use words::get;
@@ -38,12 +40,14 @@ pub fn ends_at(work: &[u8], m: usize, v: usize, i: usize) -> u64
     get(work, m + i)
 }
 
-// The step of one FSPT.
-pub fn step_of(e: &[u8], work: &[u8], m: usize, v: usize) -> Taken
+// The step of one FSPT. Its edge is looked for where the words of its class may begin.
+pub fn step_of(e: &[u8], work: &[u8], m: usize, v: usize, starts: Starts) -> Taken
     requires { ⌜ (8 ≤ length (now e)) × Noted (now work) m v ⌝ }
     ensures { λ r. ⌜ r ≡ takenOf (indexOf (wordsIn (now (work .entry)) 0 m)) (nodeAt (wordsIn (now (work .entry)) 0 m) (wordsIn (now (work .entry)) m v)) (now (e .entry)) ⌝ }
 {
-    let Found::At(i) = index_of(work, 0, m, name_in(e)) else {
+    let name = name_in(e);
+    let start = start_for(starts, name);
+    let Found::At(i) = index_near(work, 0, m, name, m, start) else {
         return Taken::Missing;
     };
     let ends = ends_at(work, m, v, i);

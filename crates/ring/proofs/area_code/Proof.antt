@@ -5,6 +5,9 @@ use borrow.Author.Needs.{needs}
 use Rattle.ring.proofs.area_code.Statement.{statement}
 use Rattle.ring.proofs.area_code.Tie as tie
 
+starts-of-requires : tie.Need-starts-of-requires
+starts-of-requires c κs = search needs
+
 rings-closed-requires : tie.Need-rings-closed-requires
 rings-closed-requires c κs = search needs
 
@@ -22,4 +25,4 @@ returns-3 c = search (needs, area-open)
 
 pub area-code-spec : {M : Type 1} → statement M
 area-code-spec =
-    tie.close (tie.spec rings-closed-requires returns names-code-requires returns-2 returns-3)
+    tie.close (tie.spec starts-of-requires rings-closed-requires returns names-code-requires returns-2 returns-3)

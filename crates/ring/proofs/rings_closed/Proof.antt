@@ -20,21 +20,21 @@ use Rattle.ring.proofs.rings_closed.Statement.{statement}
 use Rattle.ring.proofs.rings_closed.Tie as tie
 
 abbrev Inv-loop : tie.InvT-loop
-Inv-loop s at h work m v exterior₀ c₀ from to start t₀ exterior c t = CursorIn s at FSPT c
+Inv-loop s at h work m v starts exterior₀ c₀ from to start t₀ exterior c t = CursorIn s at FSPT c
     × (areaClosed (indexOf (wordsIn work 0 m)) (nodeAt (wordsIn work 0 m) (wordsIn work m v)) (entriesAt s at FSPT) ≡ namedAnd (indexOf (wordsIn work 0 m)) (left s at FSPT c)
     (behind (nodeAt (wordsIn work 0 m) (wordsIn work m v)) exterior start t (left s at FSPT c)))
     × (length (left s at FSPT c) ≤ length (left s at FSPT c₀)) × Noted work m v
 
 abbrev μ-loop : tie.MeasureT-loop
-μ-loop s at h work m v exterior₀ c₀ from to start t₀ exterior c t = length (left s at FSPT c)
+μ-loop s at h work m v starts exterior₀ c₀ from to start t₀ exterior c t = length (left s at FSPT c)
 
 abbrev Inv-rings : tie.InvT-rings
-Inv-rings s at h work m v exterior₀ c₀ exterior c = CursorIn s at FSPT c
+Inv-rings s at h work m v starts exterior₀ c₀ exterior c = CursorIn s at FSPT c
     × (areaClosed (indexOf (wordsIn work 0 m)) (nodeAt (wordsIn work 0 m) (wordsIn work m v)) (entriesAt s at FSPT) ≡ namedAnd (indexOf (wordsIn work 0 m)) (left s at FSPT c)
     (ringsFrom (nodeAt (wordsIn work 0 m) (wordsIn work m v)) exterior false 0 0 (left s at FSPT c)))
 
 abbrev μ-rings : tie.MeasureT-rings
-μ-rings s at h work m v exterior₀ c₀ exterior c = length (left s at FSPT c)
+μ-rings s at h work m v starts exterior₀ c₀ exterior c = length (left s at FSPT c)
 
 begin-requires : tie.Need-begin-requires Inv-loop μ-loop Inv-rings μ-rings
 begin-requires c κs = search needs

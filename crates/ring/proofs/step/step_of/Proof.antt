@@ -7,8 +7,11 @@ use Rattle.ring.proofs.step.step_of.Tie as tie
 name-in-requires : tie.Need-name-in-requires
 name-in-requires c κs = search needs
 
-index-of-requires : tie.Need-index-of-requires
-index-of-requires c κs = search needs
+start-for-requires : tie.Need-start-for-requires
+start-for-requires c κs = search needs
+
+index-near-requires : tie.Need-index-near-requires
+index-near-requires c κs = search needs
 
 enum-known-i : tie.Need-enum-known-i
 enum-known-i c = search needs
@@ -48,7 +51,8 @@ step-of-spec =
     tie.close
     (tie.spec
     name-in-requires
-    index-of-requires
+    start-for-requires
+    index-near-requires
     enum-known-i
     enum-told
     returns
