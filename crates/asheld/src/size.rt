@@ -6,7 +6,7 @@ ghost use Rattle.items.specs.Premises.{LaidOut};
 ghost use Rattle.asheld.specs.Held.{LongTold, ClosedTold, NarrowTold, LastAt, LastEnd, HeldTold};
 use iso8211::field::Head;
 use itemrows::plain::is_plain;
-use octets::digits::sure_digits;
+use octets::widths::sure_at;
 
 // Whether one of n rows of w bytes, the first at i, has a length that doesn't begin with 0.
 fn some_long(s: &[u8], i: usize, n: usize, w: usize) -> bool
@@ -70,7 +70,7 @@ fn last_end(s: &[u8], at: usize, h: Head) -> u32
     let l = h.lengths;
     let p = h.positions;
     let last = last_place(s, at, h);
-    sure_digits(s, last + 4, l) + sure_digits(s, last + 4 + l, p)
+    sure_at(s, last + 4, l) + sure_at(s, last + 4 + l, p)
 }
 
 // How long the record at `at` is if its bytes are those of the held form, else 0. Where this says 0,

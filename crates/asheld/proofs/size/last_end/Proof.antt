@@ -7,20 +7,20 @@ use Rattle.asheld.proofs.size.last_end.Tie as tie
 last-place-requires : tie.Need-last-place-requires
 last-place-requires c κs = search needs
 
-add-sure-digits : tie.Need-add-sure-digits
-add-sure-digits c = search needs
+add-sure-at : tie.Need-add-sure-at
+add-sure-at c = search needs
 
-sure-digits-requires : tie.Need-sure-digits-requires
-sure-digits-requires c κs = search (needs, last-length)
+sure-at-requires : tie.Need-sure-at-requires
+sure-at-requires c κs = search (needs, last-length)
 
-add-sure-digits-2 : tie.Need-add-sure-digits-2
-add-sure-digits-2 c = search needs
+add-sure-at-2 : tie.Need-add-sure-at-2
+add-sure-at-2 c = search needs
 
-add-sure-digits-3 : tie.Need-add-sure-digits-3
-add-sure-digits-3 c = search needs
+add-sure-at-3 : tie.Need-add-sure-at-3
+add-sure-at-3 c = search needs
 
-sure-digits-requires-2 : tie.Need-sure-digits-requires-2
-sure-digits-requires-2 c κs = search (needs, last-position)
+sure-at-requires-2 : tie.Need-sure-at-requires-2
+sure-at-requires-2 c κs = search (needs, last-position)
 
 add-result : tie.Need-add-result
 add-result c = search needs
@@ -33,10 +33,10 @@ last-end-spec =
     tie.close
     (tie.spec
     last-place-requires
-    add-sure-digits
-    sure-digits-requires
-    add-sure-digits-2
-    add-sure-digits-3
-    sure-digits-requires-2
+    add-sure-at
+    sure-at-requires
+    add-sure-at-2
+    add-sure-at-3
+    sure-at-requires-2
     add-result
     returns)
