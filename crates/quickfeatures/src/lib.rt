@@ -17,7 +17,7 @@ use octets::number::get2;
 use rings::rings_quick;
 use shape::spatial::spatial_count;
 use spans::Span;
-use spans::spans_of;
+use spans::two_spans_of;
 use spatial::names_quick;
 use table::offsets;
 use table::sizes;
@@ -82,7 +82,7 @@ pub fn feature_quick(
     requires { ⌜ Reached (now s) at h 3 due × Identified (now s) at × (id ≡ idAt (now s) at) × (rcnmAt (now s) at ≡ 100) × Noted (now work) m v ⌝ }
     ensures { λ r. ⌜ Drawn (now (work .entry)) m v (itemAt (now (s .entry)) at) r ⌝ }
 {
-    let sp = spans_of(s, at, h, 3, due, tags::FFPT, tags::FSPT, 0);
+    let sp = two_spans_of(s, at, h, 3, due, tags::FFPT, tags::FSPT);
     let related = sp.one;
     let spatial = sp.two;
     let prim = get1(s, id + offsets::FRID_PRIM);

@@ -1,7 +1,8 @@
-// Where the lists of an item's record lie in the file: one walk over its fields finds three of them.
-// It promises to the crates above: `front_of`, where the lists begin, and `spans_of`, from where to
-// where the bytes of each list stand, if it stands in one field. It takes fields from `iso8211` and
-// records that are laid out from `items`. Lists in several fields are left to the cursors of `items`.
+// Where the lists of an item's record lie in the file: one walk over its fields finds three or two of
+// them. It promises to the crates above: `front_of`, where the lists begin, and `spans_of` and
+// `two_spans_of`, from where to where the bytes of each list stand, if it stands in one field. It takes
+// fields from `iso8211` and records that are laid out from `items`. Lists in several fields are left to
+// the cursors of `items`.
 ghost use Prim.Native.Nat.{_+_, _≤_};
 ghost use mathlib.Core.Path.{_≡_};
 ghost use lib.ListN.{length};
@@ -27,6 +28,12 @@ pub struct Spans {
     pub one: Span,
     pub two: Span,
     pub three: Span,
+}
+
+// Those of two.
+pub struct TwoSpans {
+    pub one: Span,
+    pub two: Span,
 }
 
 // Where the identifier field of a vector or a feature starts, and where the first field behind the
@@ -135,4 +142,33 @@ pub fn spans_of(
         due = field_end(s, f);
     }
     sp
+}
+
+// The same of two lists, all that is asked of a feature: each walk then has one caller, into which the
+// compiler puts it.
+pub fn two_spans_of(
+    s: &[u8],
+    at: usize,
+    h: Head,
+    first: usize,
+    start: usize,
+    a: u32,
+    b: u32,
+) -> TwoSpans
+    requires { ⌜ Reached (now s) at h first start ⌝ }
+    ensures { λ r. ⌜ SpanOf (now (s .entry)) at a (r .one) × SpanOf (now (s .entry)) at b (r .two) ⌝ }
+{
+    let count = h.count;
+    let mut one = Span { from: 0, to: 0 };
+    let mut two = Span { from: 0, to: 0 };
+    let mut due = start;
+    let mut j = first;
+    while j < count {
+        let f = field_on(s, at, h, j, due);
+        one = span_with(s, one, f, a);
+        two = span_with(s, two, f, b);
+        due = field_end(s, f);
+        j += 1;
+    }
+    TwoSpans { one, two }
 }

@@ -4,8 +4,8 @@ use borrow.Author.Needs.{needs}
 use Rattle.quickfeatures.proofs.feature_quick.Statement.{statement}
 use Rattle.quickfeatures.proofs.feature_quick.Tie as tie
 
-spans-of-requires : tie.Need-spans-of-requires
-spans-of-requires c κs = search needs
+two-spans-of-requires : tie.Need-two-spans-of-requires
+two-spans-of-requires c κs = search needs
 
 add-get1 : tie.Need-add-get1
 add-get1 c = search (needs, prim-room)
@@ -38,7 +38,7 @@ pub feature-quick-spec : {M : Type 1} → statement M
 feature-quick-spec =
     tie.close
     (tie.spec
-    spans-of-requires
+    two-spans-of-requires
     add-get1
     get1-requires
     add-get2
