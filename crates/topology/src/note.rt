@@ -6,8 +6,6 @@ ghost use mathlib.Core.Path.{_≡_};
 ghost use lib.ListN.{length};
 ghost use Rattle.octets.specs.Premises.{Reads};
 ghost use Rattle.headvalues.specs.Dspm.{mostComf};
-ghost use Rattle.iso8211.specs.Premises.{HeadOf};
-ghost use Rattle.spans.specs.Spans.{SpanOf};
 ghost use Rattle.words.specs.Words.{wordsIn};
 ghost use Rattle.words.specs.Order.{Sorted};
 ghost use Rattle.table.specs.Table.{VRPT};
@@ -19,55 +17,27 @@ ghost use Rattle.items.specs.Item.{itemAt};
 ghost use Rattle.topology.specs.Notes.{noteFor, notesFor, Ranked, Roomy, Beside, NotesPut, Prepared, ClearTo};
 use crate::seen::clear_with;
 use crate::seen::seen_of;
-use iso8211::field::Head;
 use iso8211::field::head_of;
 use items::identity::foid_of;
 use items::word;
 use lookups::starts::starts_of;
 use octets::number::get8;
-use ring::ends::ends_between;
 use ring::ends::ends_of;
 use spans::Front;
-use spans::Span;
 use spans::front_of;
-use spans::spans_of;
-use table::sizes;
-use table::tags;
 use words::find;
 use words::get;
 use words::put;
 use words::sort;
 ghost use Rattle.names.specs.NameWords.{itemsAt};
 
-// The ends of the edge at `at`, whose pointers lie in this span: where they stand in one field, by these
-// two alone.
-pub fn ends_lying(s: &[u8], at: usize, h: Head, ends: Span) -> u64
-    requires { ⌜ LaidOut (now s) at × HeadOf (now s) at h × SpanOf (now s) at 1448235092 ends ⌝ }
-    ensures { λ r. ⌜ r ≡ endsWith (entriesAt (now (s .entry)) at VRPT) ⌝ }
-{
-    let from = ends.from;
-    let to = ends.to;
-    if to < from {
-        return ends_of(s, at, h);
-    }
-    if to - from != 18 {
-        return ends_of(s, at, h);
-    }
-    let mid = from + sizes::VRPT;
-    ends_between(&s[from..mid], &s[mid..to])
-}
-
-// The ends of the edge at `at`.
+// The ends of the edge at `at`. Few come here: `seen_at` tells them by where the pointers lie.
 fn ends_note(s: &[u8], at: usize) -> u64
-    requires { ⌜ LaidOut (now s) at × Identified (now s) at ⌝ }
+    requires { ⌜ LaidOut (now s) at ⌝ }
     ensures { λ r. ⌜ r ≡ endsWith (entriesAt (now (s .entry)) at VRPT) ⌝ }
 {
     let h = head_of(s, at);
-    let Front::Vector(_id, due) = front_of(s, at, h) else {
-        return ends_of(s, at, h);
-    };
-    let sp = spans_of(s, at, h, 2, due, tags::VRPT, 0, 0);
-    ends_lying(s, at, h, sp.one)
+    ends_of(s, at, h)
 }
 
 // The FOID that stands behind the FRID at `id`, which has twelve bytes and its 1E.

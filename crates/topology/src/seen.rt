@@ -4,29 +4,53 @@ ghost use Prim.Native.Nat.{_≤_, _<_};
 ghost use mathlib.Core.Path.{_≡_};
 ghost use Rattle.headvalues.specs.Dspm.{mostComf};
 ghost use Rattle.words.specs.Words.{wordsIn};
+ghost use Rattle.table.specs.Table.{VRPT};
 ghost use Rattle.items.specs.Item.{itemAt};
+ghost use Rattle.items.specs.Lists.{entriesAt};
+ghost use Rattle.items.specs.Premises.{LaidOut};
 ghost use Rattle.items.specs.Word.{wordOffset};
 ghost use Rattle.names.specs.Premises.{Stands};
 ghost use Rattle.iso8211.specs.Premises.{HeadOf};
+ghost use Rattle.ring.specs.Walk.{endsWith};
 ghost use Rattle.spans.specs.Spans.{SpanOf};
 ghost use Rattle.quickvectors.specs.Quick.{NamesIn};
 ghost use Rattle.topology.specs.Notes.{noteFor, Ranked, SeenTold, ClearWith};
-use crate::note::ends_lying;
 use crate::note::note_at;
 use iso8211::field::Head;
 use iso8211::field::head_of;
 use items::word;
 use quickvectors::vector_lying;
+use ring::ends::ends_between;
+use ring::ends::ends_of;
 use spans::Front;
 use spans::Span;
 use spans::front_of;
 use spans::spans_of;
+use table::sizes;
 use table::tags;
 
 // The note of an item, and whether it is known to have no fault.
 pub struct Seen {
     pub note: u64,
     pub clear: bool,
+}
+
+// The ends of the edge at `at`, whose pointers lie in this span: where they stand in one field, by these
+// two alone.
+fn ends_lying(s: &[u8], at: usize, h: Head, ends: Span) -> u64
+    requires { ⌜ LaidOut (now s) at × HeadOf (now s) at h × SpanOf (now s) at 1448235092 ends ⌝ }
+    ensures { λ r. ⌜ r ≡ endsWith (entriesAt (now (s .entry)) at VRPT) ⌝ }
+{
+    let from = ends.from;
+    let to = ends.to;
+    if to < from {
+        return ends_of(s, at, h);
+    }
+    if to - from != 18 {
+        return ends_of(s, at, h);
+    }
+    let mid = from + sizes::VRPT;
+    ends_between(&s[from..mid], &s[mid..to])
 }
 
 // The note of the vector at `at`, whose pointers lie in this span.

@@ -3,8 +3,8 @@ use Rattle.spans.proofs.StrideLaws.{span-within}
 use Rattle.quickvectors.proofs.VectorLaws.{begin-long, end-long, edge-mid}
 use Rattle.topology.proofs.QuickLaws.{edge-listed, ends-told}
 use borrow.Author.Needs.{needs}
-use Rattle.topology.proofs.note.ends_lying.Statement.{statement}
-use Rattle.topology.proofs.note.ends_lying.Tie as tie
+use Rattle.topology.proofs.seen.ends_lying.Statement.{statement}
+use Rattle.topology.proofs.seen.ends_lying.Tie as tie
 
 ends-of-requires : tie.Need-ends-of-requires
 ends-of-requires c κs = search (needs, edge-listed)
