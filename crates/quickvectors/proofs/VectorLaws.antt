@@ -20,7 +20,6 @@ use Rattle.items.specs.Lists.{entriesAt}
 use Rattle.items.specs.Identity.{idAt, rcnmAt}
 use Rattle.items.specs.Item.{Item, itemAt}
 use Rattle.items.specs.Premises.{Identified}
-use Rattle.names.specs.Premises.{Noted}
 use Rattle.items.proofs.IdentityLaws.{num-one}
 use Rattle.items.proofs.ItemLaws.{vrpt-said, sg2d-said, sg3d-said}
 use Rattle.lookups.specs.Lookup.{nameIn, foundCode}
@@ -33,9 +32,8 @@ use Rattle.pointer.specs.Pointer.{namesCode, pointerCode}
 use Rattle.ring.specs.Ring.{ringCode}
 use Rattle.spans.specs.Spans.{SpanIn, SpanOf, restOf, Lies}
 use Rattle.spans.specs.declared.Span.{Span}
-use Rattle.spans.specs.declared.Spans.{Spans}
 use Rattle.spans.proofs.StrideLaws.{rest-end, rest-more, rest-count, vrpt-lies, sg2d-lies, sg3d-lies}
-use Rattle.quickvectors.specs.Quick.{Quick, FaultlessVector, VectorTold, VectorIn, NamesIn, ListTold, bytesIn, NodeTold, PairedTold, HeldTold, EndsTold, EdgeTold}
+use Rattle.quickvectors.specs.Quick.{FaultlessVector, VectorTold, ListTold, bytesIn, NodeTold, PairedTold, HeldTold, EndsTold, EdgeTold}
 use Rattle.quickvectors.proofs.CoordinateLaws.{never}
 
 -- ---- a no tells nothing
@@ -245,26 +243,3 @@ module _ (s : List ℕ) (at : ℕ) (vector : rcnmAt s at ≡ 100 → ⊥) where
             rw (ne-eqb (rcnmAt s at) 110 other, ne-eqb (rcnmAt s at) 120 another, vrpt-said s at, sg3d-said s at, deepless, l .are, two .two, two .good, two .sum) in
             vector-faultless comf (wordsIn work 0 m) shaped coordinates-good (rw (l .are) (two .there));
       }
-
--- ---- vector_quick
-pub quick-no : (comf : ℕ) (work : List ℕ) (m v : ℕ) (i : Item) → Quick comf work m v i false
-quick-no comf work m v i = record { is = λ (e : false ≡ true). never e }
-
-pub told-quick : (comf : ℕ) (work : List ℕ) (m v : ℕ) (i : Item) (r : Bool) → VectorTold comf (wordsIn work 0 m) i r → Quick comf work m v i r
-told-quick comf work m v i r told = record {
-  is = λ (e : r ≡ true). let faultless = told .is e in record { shape = faultless .shape; pointer = faultless .pointer _; ring = faultless .ring _ };
-}
-
-pub noted-names : {work : List ℕ} {m v : ℕ} → Noted work m v → NamesIn work m
-noted-names noted = record { room = let room = noted .room in omega arith; order = noted .order }
-
-pub vector-in : (s : List ℕ) (at id : ℕ) (sp : Spans) → Identified s at → id ≡ idAt s at → (rcnmAt s at ≡ 100 → ⊥) → SpanOf s at 1448235092 (sp .one)
-    → SpanOf s at 1397174852 (sp .two) → SpanOf s at 1397175108 (sp .three) → VectorIn s at id sp
-vector-in s at id sp known there vector ends pairs soundings = record {
-  known = known;
-  there = there;
-  vector = vector;
-  ends = ends;
-  pairs = pairs;
-  soundings = soundings;
-}

@@ -6,24 +6,18 @@ ghost use Prim.Native.Nat.{_≤_};
 ghost use mathlib.Core.Path.{_≡_};
 ghost use lib.ListN.{length};
 ghost use Rattle.headvalues.specs.Dspm.{mostComf};
-ghost use Rattle.items.specs.Identity.{idAt, rcnmAt};
 ghost use Rattle.items.specs.Item.{itemAt};
-ghost use Rattle.items.specs.Premises.{Identified};
-ghost use Rattle.names.specs.Premises.{Noted};
-ghost use Rattle.spans.specs.Spans.{Reached, SpanIn};
+ghost use Rattle.spans.specs.Spans.{SpanIn};
 ghost use Rattle.words.specs.Words.{wordsIn};
-ghost use Rattle.quickvectors.specs.Quick.{NodeTold, PairedTold, HeldTold, EndsTold, EdgeTold, Quick, VectorIn, NamesIn, VectorTold};
+ghost use Rattle.quickvectors.specs.Quick.{NodeTold, PairedTold, HeldTold, EndsTold, EdgeTold, VectorIn, NamesIn, VectorTold};
 use coordinates::list_within;
-use iso8211::field::Head;
 use lookups::lookup::Found;
 use lookups::lookup::index_near;
 use lookups::lookup::name_in;
 use octets::number::get1;
 use spans::Span;
 use spans::Spans;
-use spans::spans_of;
 use table::sizes;
-use table::tags;
 use vectorshape::vector::end_good;
 use vectorshape::vector::topi_of;
 
@@ -141,24 +135,4 @@ pub fn vector_lying(
         return false;
     }
     edge_shaped(s, ends, work, m, start)
-}
-
-// The same where its lists are still to be found: field 2 starts at `due`.
-pub fn vector_quick(
-    s: &[u8],
-    at: usize,
-    h: Head,
-    id: usize,
-    due: usize,
-    comf: u32,
-    work: &[u8],
-    m: usize,
-    v: usize,
-    start: usize,
-) -> bool
-    requires { ⌜ Reached (now s) at h 2 due × Identified (now s) at × (id ≡ idAt (now s) at) × (rcnmAt (now s) at ≡ 100 → ⊥) × Noted (now work) m v × (comf ≤ mostComf) ⌝ }
-    ensures { λ r. ⌜ Quick comf (now (work .entry)) m v (itemAt (now (s .entry)) at) r ⌝ }
-{
-    let sp = spans_of(s, at, h, 2, due, tags::VRPT, tags::SG2D, tags::SG3D);
-    vector_lying(s, at, id, sp, comf, work, m, start)
 }

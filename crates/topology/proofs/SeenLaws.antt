@@ -14,16 +14,18 @@ use Rattle.words.specs.Order.{Sorted}
 use Rattle.words.proofs.WordsLaws.{words-at, words-length}
 use Rattle.answers.specs.First.{firstBy}
 use Rattle.lookups.specs.LookupWords.{indexOf}
+use Rattle.items.specs.Identity.{rcnmAt, rankOf}
 use Rattle.items.specs.Word.{wordOffset}
 use Rattle.items.specs.Item.{Item, itemAt}
+use Rattle.items.specs.Premises.{LaidOut, Identified}
+use Rattle.names.specs.Premises.{Noted}
 use Rattle.iso8211.specs.declared.field.Head.{Head}
 use Rattle.spans.specs.Spans.{FrontTold, SpanOf}
 use Rattle.spans.specs.declared.Front.{Front}
 use Rattle.spans.specs.declared.Front.the-variants.{Vector}
 use Rattle.spans.specs.declared.Spans.{Spans}
-use Rattle.quickvectors.specs.Quick.{FaultlessVector, VectorTold, VectorIn, NamesIn}
+use Rattle.quickvectors.specs.Quick.{Quick, FaultlessVector, VectorTold, VectorIn, NamesIn}
 use Rattle.quickvectors.proofs.CoordinateLaws.{never}
-use Rattle.quickvectors.proofs.VectorLaws.{vector-in}
 use Rattle.topology.proofs.QuickLaws.{vector-id, vector-class}
 use Rattle.topology.specs.Topology.{itemCode}
 use Rattle.topology.specs.Notes.{noteFor, notedCode, wordFault, Ranked, Prepared, SeenTold, ClearTo, ClearWith}
@@ -43,7 +45,26 @@ seen-judged comf ws i r told faultless = record { note = told; clear = faultless
 -- the front of its record and its lists, f being what the front is told to be
 pub seen-vector : (s : List ℕ) (at rank : ℕ) (h : Head) (f : Front) (id due : ℕ) (sp : Spans) → Ranked s at rank → FrontTold s at h f → f ≡ Vector id due
     → SpanOf s at 1448235092 (sp .one) → SpanOf s at 1397174852 (sp .two) → SpanOf s at 1397175108 (sp .three) → VectorIn s at id sp
-seen-vector s at rank h f id due sp ranked told is = vector-in s at id sp (ranked .known) (vector-id s at h f told id due is) (vector-class s at h f told id due is)
+seen-vector s at rank h f id due sp ranked told is ends pairs soundings = record {
+  known = ranked .known;
+  there = vector-id s at h f told id due is;
+  vector = vector-class s at h f told id due is;
+  ends = ends;
+  pairs = pairs;
+  soundings = soundings;
+}
+
+-- where no more is asked than whether it is clear: its class is read, and the words are those of the notes
+pub read-ranked : (s : List ℕ) (at rank rcnm : ℕ) → LaidOut s at → Identified s at → rcnm ≡ rcnmAt s at → rank ≡ rankOf rcnm → Ranked s at rank
+read-ranked s at rank rcnm laid known read is = record { laid = laid; known = known; is = is ∙ ap rankOf read }
+
+pub noted-names : {work : List ℕ} {m v : ℕ} → Noted work m v → NamesIn work m
+noted-names noted = record { room = let room = noted .room in omega arith; order = noted .order }
+
+pub seen-quick : (comf : ℕ) (work : List ℕ) (m v : ℕ) (i : Item) (r : Seen) → SeenTold comf (wordsIn work 0 m) i r → Quick comf work m v i (r .clear)
+seen-quick comf work m v i r told = record {
+  is = λ (e : r .clear ≡ true). let faultless = told .clear e in record { shape = faultless .shape; pointer = faultless .pointer _; ring = faultless .ring _ };
+}
 
 -- an item without fault has no code, whatever is said of FOIDs and nodes
 pub faultless-code : (comf : ℕ) (ws : List ℕ) (object : ℕ → Bool) (node : ℕ → ℕ → ℕ) (i : Item) → FaultlessVector comf ws i → 0 ≡ itemCode comf (indexOf ws) object node i

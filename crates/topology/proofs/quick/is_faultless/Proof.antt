@@ -1,6 +1,6 @@
--- What the front of the record tells is what the quick tests ask for.
-use Rattle.quickvectors.proofs.VectorLaws.{quick-no}
-use Rattle.topology.proofs.QuickLaws.{vector-id, vector-class, vector-reached, feature-id, feature-class, feature-reached, drawn-quick}
+-- What the front of the record tells is what the quick test of a feature asks for; any other item is seen as on the way to its note.
+use Rattle.topology.proofs.QuickLaws.{feature-id, feature-class, feature-reached, drawn-quick}
+use Rattle.topology.proofs.SeenLaws.{read-ranked, noted-names, seen-quick}
 use borrow.Author.Needs.{needs}
 use Rattle.topology.proofs.quick.is_faultless.Statement.{statement}
 use Rattle.topology.proofs.quick.is_faultless.Tie as tie
@@ -11,29 +11,26 @@ head-of-requires c κs = search needs
 front-of-requires : tie.Need-front-of-requires
 front-of-requires c κs = search needs
 
-enum-known-front : tie.Need-enum-known-front
-enum-known-front c = search needs
+enum-known-id : tie.Need-enum-known-id
+enum-known-id c = search needs
 
-vector-quick-requires : tie.Need-vector-quick-requires
-vector-quick-requires c κs = (search (needs, vector-reached), search needs, search (needs, vector-id), search (needs, vector-class), search needs, search needs)
+rcnm-of-requires : tie.Need-rcnm-of-requires
+rcnm-of-requires c κs = search needs
 
-enum-known-front-2 : tie.Need-enum-known-front-2
-enum-known-front-2 c = search needs
+rank-of-requires : tie.Need-rank-of-requires
+rank-of-requires c κs = search needs
+
+seen-at-requires : tie.Need-seen-at-requires
+seen-at-requires c κs = (search (needs, read-ranked), search (needs, noted-names), search needs)
+
+returns : tie.Need-returns
+returns c = search (needs, seen-quick)
 
 feature-quick-requires : tie.Need-feature-quick-requires
 feature-quick-requires c κs = (search (needs, feature-reached), search needs, search (needs, feature-id), search (needs, feature-class), search needs)
 
-enum-told : tie.Need-enum-told
-enum-told c = search needs
-
-returns : tie.Need-returns
-returns c = search (needs, drawn-quick, quick-no)
-
 returns-2 : tie.Need-returns-2
-returns-2 c = search (needs, drawn-quick, quick-no)
-
-returns-3 : tie.Need-returns-3
-returns-3 c = search (needs, drawn-quick, quick-no)
+returns-2 c = search (needs, drawn-quick)
 
 pub is-faultless-spec : {M : Type 1} → statement M
 is-faultless-spec =
@@ -41,11 +38,10 @@ is-faultless-spec =
     (tie.spec
     head-of-requires
     front-of-requires
-    enum-known-front
-    vector-quick-requires
-    enum-known-front-2
-    feature-quick-requires
-    enum-told
+    enum-known-id
+    rcnm-of-requires
+    rank-of-requires
+    seen-at-requires
     returns
-    returns-2
-    returns-3)
+    feature-quick-requires
+    returns-2)
