@@ -1,7 +1,7 @@
 // Lists with texts, whole and of good values at once: a list of attributes, a list of FFPT. Each takes
 // the bytes d of a field with its closing 1E, which is no text, so that a text needs no other end.
 ghost use Prim.Native.Nat.{_+_, _-_, _≤_};
-ghost use mathlib.Core.Bool.{Bool, true};
+ghost use mathlib.Core.Bool.{Bool, true, false};
 ghost use mathlib.Core.Path.{_≡_};
 ghost use lib.ListN.{length};
 ghost use Rattle.fieldfine.specs.Told.{contentIn, AttributesTold, PointersTold};
@@ -109,6 +109,17 @@ pub fn attributes_fine(d: &[u8], update: bool, high: bool, table: &mut [u32], st
     at != 0
 }
 
+// The first byte of a comment from `from` on that is no text. Nearly every comment is empty.
+fn comment_run(d: &[u8], from: usize) -> usize
+    requires { ⌜ Ended (now d) × (from + 1 ≤ length (now d)) ⌝ }
+    ensures { λ r. ⌜ TextRun false (contentIn (now (d .entry))) from r × (r + 1 ≤ length (now (d .entry))) ⌝ }
+{
+    if d[from] == 31 {
+        return from;
+    }
+    text_run(d, from, false)
+}
+
 // The length of the FFPT at `at`, its values good; 0 where none such stands there.
 fn pointer_len(d: &[u8], at: usize) -> usize
     requires { ⌜ Ended (now d) × (at + 1 ≤ length (now d)) ⌝ }
@@ -124,7 +135,7 @@ fn pointer_len(d: &[u8], at: usize) -> usize
     if 3 < rind {
         return 0;
     }
-    let end = text_run(d, at + offsets::FFPT_COMT, false);
+    let end = comment_run(d, at + offsets::FFPT_COMT);
     if d[end] != 31 {
         return 0;
     }

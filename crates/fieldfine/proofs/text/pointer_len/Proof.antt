@@ -26,11 +26,11 @@ returns-2 c = pointer-not refl
 returns-3 : tie.Need-returns-3
 returns-3 c = pointer-not refl
 
-add-text-run : tie.Need-add-text-run
-add-text-run c = search needs
+add-comment-run : tie.Need-add-comment-run
+add-comment-run c = search needs
 
-text-run-requires : tie.Need-text-run-requires
-text-run-requires c κs = search needs
+comment-run-requires : tie.Need-comment-run-requires
+comment-run-requires c κs = search needs
 
 shared-slice-read-if4 : tie.Need-shared-slice-read-if4
 shared-slice-read-if4 c = search needs
@@ -58,8 +58,8 @@ pointer-len-spec =
     wide-requires
     returns-2
     returns-3
-    add-text-run
-    text-run-requires
+    add-comment-run
+    comment-run-requires
     shared-slice-read-if4
     returns-4
     add-result
