@@ -1,13 +1,13 @@
 -- What an insert and a delete bring, as the code reads it. Assumes nothing.
-use Prim.Native.Nat.{ℕ}
-use mathlib.Core.Bool.{Bool, true, false, _&&_}
-use mathlib.Core.List.{List, [], _∷_, flatten}
+use Prim.Native.Nat.{ℕ, _+_, _-_, _≤_, _<_}
+use mathlib.Core.Bool.{Bool, true, false, not, _&&_}
+use mathlib.Core.List.{List, [], _∷_, _++_, flatten}
 use mathlib.Core.Logic.{⊎-elim}
 use mathlib.Core.Path.{_≡_, refl, sym, ap, _∙_}
 use native.Mathlib.Omega.{arith}
 use lib.ListN.{length}
 use lib.Dec.{eqb}
-use borrow.Author.Tests.{eq-eqb, ne-eqb}
+use borrow.Author.Tests.{eq-eqb, ne-eqb, not-false}
 use Rattle.octets.specs.Number.{byteAt}
 use Rattle.octets.proofs.Cases.{eq-or-ne}
 use Rattle.octets.proofs.Tests.{chain}
@@ -15,22 +15,23 @@ use Rattle.entries.specs.declared.Shape.{Shape}
 use Rattle.entries.specs.Entries.{entriesOf}
 use Rattle.entries.specs.Premises.{Whole}
 use Rattle.entries.specs.Rules.{allOf}
-use Rattle.entries.proofs.EntriesLaws.{count-few}
-use Rattle.table.specs.Table.{table, rowOf, ATTV, VRPC, VRPT, SGCC, SG2D, SG3D, ATTF, NATF, FFPC, FFPT, FSPC, FSPT}
+use Rattle.entries.proofs.EntriesLaws.{count-few, entries-nil}
+use Rattle.iso8211.specs.Field.{countAt, fieldAt}
+use Rattle.table.specs.Table.{table, kindOf, rowOf, ATTV, VRPC, VRPT, SGCC, SG2D, SG3D, ATTF, NATF, FFPC, FFPT, FSPC, FSPT}
 use Rattle.attributes.specs.Attributes.{isRemoval}
 use Rattle.layout.specs.Layout.{shapeOf}
 use Rattle.fieldvalue.specs.Value.{isAttributes}
 use Rattle.items.specs.Premises.{LaidOut}
-use Rattle.items.specs.Lists.{listAt, entriesAt}
+use Rattle.items.specs.Lists.{listAt, entriesAt, joinFrom}
 use Rattle.items.specs.Identity.{rcnmAt}
-use Rattle.items.proofs.ListsLaws.{list-whole}
+use Rattle.items.proofs.ListsLaws.{list-whole, join-all, join-next, join-end, part-no}
 use Rattle.items.proofs.KindLaws.{attv-list, vrpt-list, sg2d-list, sg3d-list, attf-list, natf-list, ffpt-list, fspt-list}
 use Rattle.items.specs.Item.{isFeature, listOf}
 use Rattle.edits.specs.Lists.{isNone}
 use Rattle.edits.specs.InsertDelete.{isAbsent, noControl, plainAt, insertAllowed, deleteAllowed}
 use Rattle.changes.specs.Change.{controlFrom, controlAt, amendmentAt, editOf}
 use Rattle.changes.specs.Amend.{kindsOf}
-use Rattle.allowed.specs.Brought.{isKept, isEmpty}
+use Rattle.allowed.specs.Brought.{isKept, isEmpty, SkipsTold, LacksTold, Without}
 
 -- ---- a list by its bytes, t of them
 module _ (s : List ℕ) (at k t : ℕ) (is : t ≡ length (listAt s at k)) where
@@ -48,6 +49,36 @@ module _ (s : List ℕ) (at k t : ℕ) (is : t ≡ length (listAt s at k)) where
 
 -- "search bytes depth N" closes a return of a function that looks whether lists are empty
 pub ruleset bytes = (chain, empty-no, empty-yes, empty-same)
+
+-- ---- a list of which no field is met on a walk over all
+pub skips-no : (s : List ℕ) (at f k : ℕ) → SkipsTold s at f k false
+skips-no s at f k = record { is = λ e. absurd (let z : _≡_ {A = ℕ} 0 1 = cc in omega arith) }
+
+pub skips-so : {s : List ℕ} {at f : ℕ} (k tag kind : ℕ) → tag ≡ fieldAt s at f .tag → kind ≡ kindOf tag → (kind ≡ k → ⊥) → SkipsTold s at f k true
+skips-so {s} {at} {f} k tag kind named told other = record { is = λ e. part-no s at k f (λ z. other (told ∙ ap kindOf named ∙ z)) }
+
+pub lacks-no : (s : List ℕ) (at k : ℕ) → LacksTold s at k false
+lacks-no s at k = record { is = λ e. absurd (let z : _≡_ {A = ℕ} 0 1 = cc in omega arith) }
+
+pub without-start : (s : List ℕ) (at k : ℕ) → Without s at k 0
+without-start s at k = record { left = sym (join-all s at k) }
+
+module _ {s : List ℕ} {at : ℕ} (f fields : ℕ) (all : fields ≡ countAt s at) {k : ℕ} (so : Without s at k f) where
+  pub without-on : (r : Bool) → f < fields → SkipsTold s at f k r → not r ≡ false → Without s at k (f + 1)
+  without-on r here told skipped = record {
+    left = so .left ∙ join-next s at k f (rw (← all) here)
+      ∙ ap (λ (l : List ℕ). l ++ joinFrom (countAt s at - (f + 1)) s at k (f + 1)) (told .is (not-false r skipped))
+  }
+
+  pub without-end : fields ≤ f → LacksTold s at k true
+  without-end past = record { is = λ e. so .left ∙ join-end s at k f (rw (← all) past) }
+
+gone : (s : List ℕ) (at k : ℕ) (x : Bool) → LacksTold s at k x → x ≡ true → isEmpty s at k ≡ true
+gone s at k x told all = empty-yes s at k 0 (sym (ap length (told .is all))) refl
+
+none-kept : (s : List ℕ) (at k : ℕ) → listAt s at k ≡ [] → allOf isKept (entriesAt s at k) ≡ true
+unfolding entriesAt allOf
+none-kept s at k e = rw (e, entries-nil (shapeOf k))
 
 -- ---- one attribute
 pub kept-long : (e : List ℕ) → (length e ≡ 4 → ⊥) → true ≡ isKept e
@@ -141,6 +172,11 @@ module _ (s : List ℕ) (at r : ℕ) (is : r ≡ rcnmAt s at) where
         → x ≡ insertAllowed (kindsOf (rcnmAt s at)) (editOf (amendmentAt s at))
     unfolding insertAllowed kindsOf isFeature noControl allOf plainAt isAttributes listOf rowOf table
     insert-vector x e = rw (other, absent s at VRPC, absent s at SGCC, and-true) e
+
+    pub insert-bare : (x : Bool) → LacksTold s at VRPC x → LacksTold s at SGCC x → LacksTold s at ATTV x → x ≡ true
+        → true ≡ insertAllowed (kindsOf (rcnmAt s at)) (editOf (amendmentAt s at))
+    insert-bare x first second list all =
+        insert-vector true (sym (rw (gone s at VRPC x first all, gone s at SGCC x second all) (none-kept s at ATTV (list .is all))))
 
     pub delete-vector : LaidOut s at → (x : Bool)
         → x ≡ ((isEmpty s at VRPC && isEmpty s at SGCC) && (isEmpty s at ATTV && (isEmpty s at VRPT && (isEmpty s at SG2D && isEmpty s at SG3D))))

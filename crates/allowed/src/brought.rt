@@ -1,6 +1,8 @@
 // What an insert and a delete may bring beside their identifier fields.
+ghost use Prim.Native.Nat.{_<_};
 ghost use mathlib.Core.Bool.{_&&_};
 ghost use mathlib.Core.Path.{_≡_};
+ghost use Rattle.iso8211.specs.Field.{countAt};
 ghost use Rattle.iso8211.specs.Premises.{HeadOf};
 ghost use Rattle.entries.specs.Rules.{allOf};
 ghost use Rattle.items.specs.Lists.{entriesAt};
@@ -8,13 +10,15 @@ ghost use Rattle.items.specs.Identity.{rcnmAt};
 ghost use Rattle.edits.specs.InsertDelete.{insertAllowed, deleteAllowed};
 ghost use Rattle.changes.specs.Change.{amendmentAt, editOf};
 ghost use Rattle.changes.specs.Amend.{kindsOf};
-ghost use Rattle.allowed.specs.Brought.{isKept, isEmpty};
+ghost use Rattle.allowed.specs.Brought.{isKept, isEmpty, SkipsTold, LacksTold};
 use iso8211::field::Head;
+use iso8211::field::tag_of;
 use items::Next;
 use items::cursor::begin;
 use items::identity::rcnm_of;
 use items::step::next;
 use joining::lists::total;
+use table::kind_of;
 use table::kinds;
 ghost use Rattle.items.specs.Premises.{LaidOut, Listed, Identified};
 
@@ -27,6 +31,40 @@ fn no_control(s: &[u8], at: usize, h: Head, first: usize, second: usize) -> bool
         return false;
     }
     total(s, at, h, second) == 0
+}
+
+// Whether field f of a record is of none of three kinds, told one way.
+fn skips(s: &[u8], at: usize, h: Head, f: usize, i: usize, j: usize, k: usize) -> bool
+    requires { ⌜ HeadOf (now s) at h × (f < countAt (now s) at) ⌝ }
+    ensures { λ r. ⌜ SkipsTold (now (s .entry)) at f i r × SkipsTold (now (s .entry)) at f j r × SkipsTold (now (s .entry)) at f k r ⌝ }
+{
+    let kind = kind_of(tag_of(s, at, h, f));
+    if kind == i {
+        return false;
+    }
+    if kind == j {
+        return false;
+    }
+    if kind == k {
+        return false;
+    }
+    true
+}
+
+// Whether no field of a record is of one of three kinds: one walk for all three, told one way.
+fn lacks(s: &[u8], at: usize, h: Head, i: usize, j: usize, k: usize) -> bool
+    requires { ⌜ HeadOf (now s) at h ⌝ }
+    ensures { λ r. ⌜ LacksTold (now (s .entry)) at i r × LacksTold (now (s .entry)) at j r × LacksTold (now (s .entry)) at k r ⌝ }
+{
+    let fields = h.count;
+    let mut f: usize = 0;
+    while f < fields {
+        if !skips(s, at, h, f, i, j, k) {
+            return false;
+        }
+        f += 1;
+    }
+    true
 }
 
 // Whether an attribute is anything but a removal.
@@ -77,7 +115,8 @@ fn all_empty(s: &[u8], at: usize, h: Head, i: usize, j: usize, k: usize, l: usiz
     total(s, at, h, l) == 0
 }
 
-// Whether a record that inserts brings no control and no removal.
+// Whether a record that inserts brings no control and no removal. Most vectors bring no attribute either,
+// which one walk over their fields tells.
 pub fn insert_allowed(s: &[u8], at: usize, h: Head) -> bool
     requires { ⌜ LaidOut (now s) at × HeadOf (now s) at h × Identified (now s) at ⌝ }
     ensures { λ r. ⌜ r ≡ insertAllowed (kindsOf (rcnmAt (now (s .entry)) at)) (editOf (amendmentAt (now (s .entry)) at)) ⌝ }
@@ -90,6 +129,9 @@ pub fn insert_allowed(s: &[u8], at: usize, h: Head) -> bool
             return false;
         }
         return all_kept(s, at, h, kinds::NATF);
+    }
+    if lacks(s, at, h, kinds::VRPC, kinds::SGCC, kinds::ATTV) {
+        return true;
     }
     if !no_control(s, at, h, kinds::VRPC, kinds::SGCC) {
         return false;

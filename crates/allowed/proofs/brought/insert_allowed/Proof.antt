@@ -1,7 +1,7 @@
 -- The ways of a feature, then those of a vector.
 use Rattle.items.proofs.KindLaws.{attv-list, attf-list, natf-list}
 use Rattle.octets.proofs.Tests.{chain}
-use Rattle.allowed.proofs.BroughtLaws.{insert-feature, insert-vector}
+use Rattle.allowed.proofs.BroughtLaws.{insert-feature, insert-vector, insert-bare}
 use borrow.Author.Needs.{needs}
 use Rattle.allowed.proofs.brought.insert_allowed.Statement.{statement}
 use Rattle.allowed.proofs.brought.insert_allowed.Tie as tie
@@ -27,17 +27,23 @@ all-kept-requires-2 c κs = search (needs, natf-list)
 returns-3 : tie.Need-returns-3
 returns-3 c = search (chain, insert-feature) depth 12
 
+lacks-requires : tie.Need-lacks-requires
+lacks-requires c κs = search needs
+
+returns-4 : tie.Need-returns-4
+returns-4 c = search (needs, insert-bare)
+
 no-control-requires-2 : tie.Need-no-control-requires-2
 no-control-requires-2 c κs = search needs
 
-returns-4 : tie.Need-returns-4
-returns-4 c = search (chain, insert-vector) depth 12
+returns-5 : tie.Need-returns-5
+returns-5 c = search (chain, insert-vector) depth 12
 
 all-kept-requires-3 : tie.Need-all-kept-requires-3
 all-kept-requires-3 c κs = search (needs, attv-list)
 
-returns-5 : tie.Need-returns-5
-returns-5 c = search (chain, insert-vector) depth 12
+returns-6 : tie.Need-returns-6
+returns-6 c = search (chain, insert-vector) depth 12
 
 pub insert-allowed-spec : {M : Type 1} → statement M
 insert-allowed-spec =
@@ -50,7 +56,9 @@ insert-allowed-spec =
     returns-2
     all-kept-requires-2
     returns-3
-    no-control-requires-2
+    lacks-requires
     returns-4
+    no-control-requires-2
+    returns-5
     all-kept-requires-3
-    returns-5)
+    returns-6)
