@@ -67,7 +67,7 @@ module _ {s : List ℕ} {at : ℕ} (f fields : ℕ) (all : fields ≡ countAt s 
   pub without-on : (r : Bool) → f < fields → SkipsTold s at f k r → not r ≡ false → Without s at k (f + 1)
   without-on r here told skipped = record {
     left = so .left ∙ join-next s at k f (rw (← all) here)
-      ∙ ap (λ (l : List ℕ). l ++ joinFrom (countAt s at - (f + 1)) s at k (f + 1)) (told .is (not-false r skipped))
+        ∙ ap (λ (l : List ℕ). l ++ joinFrom (countAt s at - (f + 1)) s at k (f + 1)) (told .is (not-false r skipped));
   }
 
   pub without-end : fields ≤ f → LacksTold s at k true
