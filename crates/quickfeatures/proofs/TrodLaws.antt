@@ -72,12 +72,12 @@ pub at-long : (s : List ℕ) (i to : ℕ) → to ≤ length s → 8 ≤ to - i �
 at-long s i to within more = rw (length-take, length-drop) (omega arith)
 
 -- ---- along the rings
--- between two rings, the edge at i next
-pub record Between (s : List ℕ) (from to : ℕ) (work : List ℕ) (m v : ℕ) (exterior : Bool) (i : ℕ) : Type 0 where
+-- the edge at i next: the first of its ring; or, where one has begun, behind edges that began at `home` and came to `due`
+pub record Followed (s : List ℕ) (from to : ℕ) (work : List ℕ) (m v : ℕ) (exterior begun : Bool) (home due i : ℕ) : Type 0 where
   pub within : to ≤ length s
   pub below : i ≤ to
   pub so : areaSound work m (restOf 8 s (from) (to)) (ringsGood (nodeAt (wordsIn work 0 m) (wordsIn work m v)) (restOf 8 s (from) (to)))
-      ≡ areaSound work m (restOf 8 s i (to)) (ringsFrom (nodeAt (wordsIn work 0 m) (wordsIn work m v)) exterior false 0 0 (restOf 8 s i (to)))
+      ≡ areaSound work m (restOf 8 s i (to)) (ringsFrom (nodeAt (wordsIn work 0 m) (wordsIn work m v)) exterior begun home due (restOf 8 s i (to)))
 
 -- in a ring that began at `home`, behind the edge t
 pub record Inside (s : List ℕ) (from to : ℕ) (work : List ℕ) (m v : ℕ) (exterior : Bool) (home : ℕ) (t : Step) (i : ℕ) : Type 0 where
@@ -89,9 +89,9 @@ pub record Inside (s : List ℕ) (from to : ℕ) (work : List ℕ) (m v : ℕ) (
 pub rings-no : (s : List ℕ) (from to : ℕ) (work : List ℕ) (m v : ℕ) → RingsTold s from to work m v false
 rings-no s from to work m v = record { is = λ (e : false ≡ true). never e }
 
-pub between-start : (s : List ℕ) (from to : ℕ) (work : List ℕ) (m v : ℕ) → from ≤ to → to ≤ length s → Between s from to work m v true from
+pub rings-start : (s : List ℕ) (from to : ℕ) (work : List ℕ) (m v : ℕ) → from ≤ to → to ≤ length s → Followed s from to work m v true false 0 0 from
 unfolding ringsGood
-between-start s from to work m v order within = record { within = within; below = order; so = refl }
+rings-start s from to work m v order within = record { within = within; below = order; so = refl }
 
 -- an FSPT that is wanted tells nothing of the others
 sound-more : (work : List ℕ) (m : ℕ) (e : List ℕ) (es : List (List ℕ)) (x y : Bool) → spatialGood 3 e ≡ true
@@ -112,57 +112,69 @@ module _ (s : List ℕ) (to : ℕ) (work : List ℕ) (m v i : ℕ) (r : Trod) (t
   cut : to ≤ length s → restOf 8 s i to ≡ take (i + 8 - i) (drop i s) ∷ restOf 8 s (i + 8) to
   cut within = rest-more 8 s i to within (omega arith) trod-room
 
-module _ (s : List ℕ) (from to : ℕ) (work : List ℕ) (m v : ℕ) (exterior : Bool) (i : ℕ) (b : Between s from to work m v exterior i) where
+module _ (s : List ℕ) (from to : ℕ) (work : List ℕ) (m v : ℕ) (exterior : Bool) (i : ℕ) (b : Followed s from to work m v exterior false 0 0 i) where
   sound-none : to - i < 8
       → areaSound work m (restOf 8 s i to) (ringsFrom (nodeAt (wordsIn work 0 m) (wordsIn work m v)) exterior false 0 0 (restOf 8 s i to)) ≡ true
   unfolding areaSound allOf namedAnd namesCode ringsFrom
   sound-none short = rw (rest-end 8 s i to (b .within) short)
 
-  pub between-end : to - i < 8 → RingsTold s from to work m v true
-  between-end short = record { is = λ (e : true ≡ true). b .so ∙ sound-none short }
+  pub rings-end : to - i < 8 → RingsTold s from to work m v true
+  rings-end short = record { is = λ (e : true ≡ true). b .so ∙ sound-none short }
 
-  -- a ring starts where its first edge does
-  pub inside-start : (r : Trod) (t : Step) (next : ℕ) → TrodAt s i to work m v r → r ≡ Along t next → Inside s from to work m v exterior (t .from) t (i + 8)
-  inside-start r t next trod is =
+-- an edge is the first of its ring, or starts where the one before ended
+module _ (s : List ℕ) (from to : ℕ) (work : List ℕ) (m v : ℕ) (exterior begun : Bool) (home due i : ℕ) (b : Followed s from to work m v exterior begun home due i)
+    (r : Trod) (t : Step) (next : ℕ) (trod : TrodAt s i to work m v r) (is : r ≡ Along t next) where
+  met : areaSound work m (restOf 8 s (from) (to)) (ringsGood (nodeAt (wordsIn work 0 m) (wordsIn work m v)) (restOf 8 s (from) (to)))
+      ≡ areaSound work m (take (i + 8 - i) (drop i s) ∷ restOf 8 s (i + 8) to)
+      (ringsFrom (nodeAt (wordsIn work 0 m) (wordsIn work m v)) exterior begun home due (take (i + 8 - i) (drop i s) ∷ restOf 8 s (i + 8) to))
+  met = b .so
+      ∙ ap (λ (es : List (List ℕ)). areaSound work m es (ringsFrom (nodeAt (wordsIn work 0 m) (wordsIn work m v)) exterior begun home due es))
+      (cut s to work m v i r trod t next is (b .within))
+
+  inside : (start : ℕ)
+      → namedAnd (indexOf (wordsIn work 0 m)) (take (i + 8 - i) (drop i s) ∷ restOf 8 s (i + 8) to)
+      (ringsFrom (nodeAt (wordsIn work 0 m) (wordsIn work m v)) exterior begun home due (take (i + 8 - i) (drop i s) ∷ restOf 8 s (i + 8) to))
+      ≡ namedAnd (indexOf (wordsIn work 0 m)) (restOf 8 s (i + 8) to) (behind (nodeAt (wordsIn work 0 m) (wordsIn work m v)) exterior start t (restOf 8 s (i + 8) to))
+      → Inside s from to work m v exterior start t (i + 8)
+  inside start named =
       let got = stepped s to work m v i r trod t next is in
       record {
         within = b .within;
         below = got .0;
-        so = b .so
-            ∙ ap (λ (es : List (List ℕ)). areaSound work m es (ringsFrom (nodeAt (wordsIn work 0 m) (wordsIn work m v)) exterior false 0 0 es))
-            (cut s to work m v i r trod t next is (b .within))
-            ∙ sound-more work m (take (i + 8 - i) (drop i s)) (restOf 8 s (i + 8) to) _ _ (got .1)
-            (edge-first (indexOf (wordsIn work 0 m)) (nodeAt (wordsIn work 0 m) (wordsIn work m v)) (take (i + 8 - i) (drop i s)) (restOf 8 s (i + 8) to) (Edge t)
-            (got .2) t refl exterior);
+        so = met ∙ sound-more work m (take (i + 8 - i) (drop i s)) (restOf 8 s (i + 8) to) _ _ (got .1) named;
       }
+
+  pub inside-first : (start : ℕ) → begun ≡ false → start ≡ t .from → Inside s from to work m v exterior start t (i + 8)
+  unfolding ringsFrom
+  inside-first start e here =
+      let got = stepped s to work m v i r trod t next is in
+      inside start
+      (rw (e, here)
+      (edge-first (indexOf (wordsIn work 0 m)) (nodeAt (wordsIn work 0 m) (wordsIn work m v)) (take (i + 8 - i) (drop i s)) (restOf 8 s (i + 8) to) (Edge t) (got .2)
+      t refl exterior))
+
+  pub inside-on : (start : ℕ) → begun ≡ true → t .from ≡ due → start ≡ home → Inside s from to work m v exterior start t (i + 8)
+  inside-on start e joined same =
+      let got = stepped s to work m v i r trod t next is in
+      inside start
+      (rw (e, same)
+      (edge-joined (indexOf (wordsIn work 0 m)) (nodeAt (wordsIn work 0 m) (wordsIn work m v)) (take (i + 8 - i) (drop i s)) (restOf 8 s (i + 8) to) (Edge t) (got .2)
+      t refl exterior home due joined))
 
 module _ (s : List ℕ) (from to : ℕ) (work : List ℕ) (m v : ℕ) (exterior : Bool) (home : ℕ) (t : Step) (i : ℕ) (b : Inside s from to work m v exterior home t i)
     (q : Bool) (used : q ≡ usageGood exterior (t .usage)) (pass : not q ≡ false) where
-  pub inside-closed : t .to ≡ home → Between s from to work m v false i
+  pub ring-closed : t .to ≡ home → Followed s from to work m v false false 0 0 i
   unfolding behind
-  inside-closed e = record {
+  ring-closed e = record {
     within = b .within;
     below = b .below;
     so = b .so ∙ rw (told-yes q (usageGood exterior (t .usage)) used pass, eq-eqb (t .to) home e);
   }
 
-  module _ (ne : t .to ≡ home → ⊥) where
-    open-ring : areaSound work m (restOf 8 s i to) (behind (nodeAt (wordsIn work 0 m) (wordsIn work m v)) exterior home t (restOf 8 s i to))
-        ≡ areaSound work m (restOf 8 s i to) (ringsFrom (nodeAt (wordsIn work 0 m) (wordsIn work m v)) exterior true home (t .to) (restOf 8 s i to))
-    unfolding behind
-    open-ring = rw (told-yes q (usageGood exterior (t .usage)) used pass, ne-eqb (t .to) home ne)
-
-    pub inside-on : (r : Trod) (u : Step) (next : ℕ) → TrodAt s i to work m v r → r ≡ Along u next → u .from ≡ t .to → Inside s from to work m v exterior home u (i + 8)
-    inside-on r u next trod is joined =
-        let got = stepped s to work m v i r trod u next is in
-        record {
-          within = b .within;
-          below = got .0;
-          so = b .so
-              ∙ open-ring
-              ∙ ap (λ (es : List (List ℕ)). areaSound work m es (ringsFrom (nodeAt (wordsIn work 0 m) (wordsIn work m v)) exterior true home (t .to) es))
-              (cut s to work m v i r trod u next is (b .within))
-              ∙ sound-more work m (take (i + 8 - i) (drop i s)) (restOf 8 s (i + 8) to) _ _ (got .1)
-              (edge-joined (indexOf (wordsIn work 0 m)) (nodeAt (wordsIn work 0 m) (wordsIn work m v)) (take (i + 8 - i) (drop i s)) (restOf 8 s (i + 8) to) (Edge u)
-              (got .2) u refl exterior home (t .to) joined);
-        }
+  pub ring-open : (t .to ≡ home → ⊥) → Followed s from to work m v exterior true home (t .to) i
+  unfolding behind
+  ring-open ne = record {
+    within = b .within;
+    below = b .below;
+    so = b .so ∙ rw (told-yes q (usageGood exterior (t .usage)) used pass, ne-eqb (t .to) home ne);
+  }

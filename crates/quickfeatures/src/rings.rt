@@ -11,7 +11,9 @@ use ring::usage_good;
 use table::sizes;
 
 // Whether all is so of the FSPT in the bytes from `from` up to `to`. The next edge is looked for
-// behind the last; in a ring t is the edge before i.
+// behind the last. A ring that has begun did so at `home`, and its next edge is due to start at `due`.
+// The edges are trodden in one place, for the first of a ring too, so that the compiler puts that into
+// the loop.
 pub fn rings_quick(
     s: &[u8],
     from: usize,
@@ -31,30 +33,31 @@ pub fn rings_quick(
         if to - i < sizes::FSPT {
             return true;
         }
-        let Trod::Along(first, next) = trod_at(s, i, to, work, m, v, near, starts) else {
-            break 'rings;
-        };
-        let home = first.from;
-        let mut t = first;
-        near = next;
-        i += sizes::FSPT;
+        let mut begun = false;
+        let mut home: u32 = 0;
+        let mut due: u32 = 0;
         loop {
+            let Trod::Along(t, next) = trod_at(s, i, to, work, m, v, near, starts) else {
+                break 'rings;
+            };
+            if begun {
+                if t.from != due {
+                    break 'rings;
+                }
+            } else {
+                home = t.from;
+            }
             if !usage_good(exterior, t.usage) {
                 break 'rings;
             }
-            if t.to == home {
+            due = t.to;
+            begun = true;
+            near = next;
+            i += sizes::FSPT;
+            if due == home {
                 exterior = false;
                 continue 'rings;
             }
-            let Trod::Along(u, next) = trod_at(s, i, to, work, m, v, near, starts) else {
-                break 'rings;
-            };
-            if u.from != t.to {
-                break 'rings;
-            }
-            t = u;
-            near = next;
-            i += sizes::FSPT;
         }
     }
     false

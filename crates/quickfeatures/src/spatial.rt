@@ -13,7 +13,7 @@ use table::sizes;
 
 // The index of the vector that an FSPT names, if the FSPT is one that the primitive wants. `near`
 // may be its index.
-pub fn spatial_near(
+fn spatial_near(
     e: &[u8],
     prim: u32,
     work: &[u8],

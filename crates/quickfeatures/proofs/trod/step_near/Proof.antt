@@ -4,8 +4,8 @@ use borrow.Author.Needs.{needs}
 use Rattle.quickfeatures.proofs.trod.step_near.Statement.{statement}
 use Rattle.quickfeatures.proofs.trod.step_near.Tie as tie
 
-spatial-near-requires : tie.Need-spatial-near-requires
-spatial-near-requires c κs = search needs
+edge-near-requires : tie.Need-edge-near-requires
+edge-near-requires c κs = search needs
 
 enum-known-i : tie.Need-enum-known-i
 enum-known-i c = search needs
@@ -47,7 +47,7 @@ pub step-near-spec : {M : Type 1} → statement M
 step-near-spec =
     tie.close
     (tie.spec
-    spatial-near-requires
+    edge-near-requires
     enum-known-i
     enum-told
     returns
