@@ -15,7 +15,7 @@ pub use lookup::has_word;
 // The same as `index_of`, with two guesses before it halves.
 pub use lookup::index_near;
 
-// The same as `has_word`, with a guess before it halves.
+// The same as `has_word`, with a guess and the word beside it before it halves.
 pub use lookup::has_near;
 
 // Where the words of each class may begin, for a guess.

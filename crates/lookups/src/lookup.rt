@@ -168,13 +168,34 @@ fn about(area: &[u8], from: usize, m: usize, w: u64, near: usize) -> usize
     find(area, from + low, n, w) - from
 }
 
+// The index beside `near` on the side on which w stands if it isn't there: a guess, which promises
+// nothing.
+fn beside(area: &[u8], from: usize, m: usize, w: u64, near: usize) -> usize
+    requires { ⌜ 8 * (from + m) ≤ length (now area) ⌝ }
+{
+    if m <= near {
+        return 0;
+    }
+    if get(area, from + near) < w {
+        return near + 1;
+    }
+    if near == 0 {
+        return 0;
+    }
+    near - 1
+}
+
 // The same as `has_word`. Before it halves all words it tries the index `near`, which may be any number,
-// and halves the words about it.
+// then the one beside it, and halves the words about it.
 pub fn has_near(area: &[u8], from: usize, m: usize, w: u64, near: usize) -> bool
     requires { ⌜ (8 * (from + m) ≤ length (now area)) × Sorted (wordsIn (now area) from m) ⌝ }
     ensures { λ r. ⌜ r ≡ isIn w (wordsIn (now (area .entry)) from m) ⌝ }
 {
     if is_there(area, from, m, w, near) {
+        return true;
+    }
+    let next = beside(area, from, m, w, near);
+    if is_there(area, from, m, w, next) {
         return true;
     }
     let place = about(area, from, m, w, near);

@@ -13,6 +13,7 @@ use Rattle.octets.specs.Lists.{isIn}
 use Rattle.table.specs.Table.{FFPT}
 use Rattle.entries.specs.declared.Shape.{Shape}
 use Rattle.entries.specs.Entries.{entryLen, entriesOf}
+use Rattle.entries.proofs.EntriesLaws.{entries-nil}
 use Rattle.entries.proofs.WalkLaws.{walk-end, walk-lent, walk-long}
 use Rattle.layout.specs.Layout.{shapeOf}
 use Rattle.items.proofs.KindLaws.{ffpt-fixed}
@@ -58,6 +59,13 @@ module _ (b work : List ℕ) (m v at : ℕ) (going : Related b work m v at) (sh 
 -- ---- of a span
 pub related-no : (s : List ℕ) (sp : Span) (work : List ℕ) (m v : ℕ) → RelatedTold s sp work m v false
 related-no s sp work m v = record { order = λ (e : false ≡ true). never e; is = λ (e : false ≡ true). never e }
+
+-- none of a span without a byte
+pub related-none : (s : List ℕ) (sp : Span) (work : List ℕ) (m v : ℕ) → sp .from ≡ sp .to → RelatedTold s sp work m v true
+unfolding lnamsCode
+related-none s sp work m v same =
+    let short : sp .to - sp .from ≡ 0 = omega arith in
+    record { order = λ (e : true ≡ true). omega arith; is = λ (e : true ≡ true). rw (short, entries-nil (shapeOf FFPT)) }
 
 pub related-told : (s : List ℕ) (sp : Span) (work : List ℕ) (m v : ℕ) (r : Bool) → sp .from ≤ sp .to
     → LnamsTold (take (sp .to - sp .from) (drop (sp .from) s)) work m v r → RelatedTold s sp work m v r

@@ -10,8 +10,8 @@ is-there-requires c κs = search needs
 returns : tie.Need-returns
 returns c = search (needs, word-told)
 
-about-requires : tie.Need-about-requires
-about-requires c κs = search needs
+beside-requires : tie.Need-beside-requires
+beside-requires c κs = search needs
 
 is-there-requires-2 : tie.Need-is-there-requires-2
 is-there-requires-2 c κs = search needs
@@ -19,11 +19,32 @@ is-there-requires-2 c κs = search needs
 returns-2 : tie.Need-returns-2
 returns-2 c = search (needs, word-told)
 
+about-requires : tie.Need-about-requires
+about-requires c κs = search needs
+
+is-there-requires-3 : tie.Need-is-there-requires-3
+is-there-requires-3 c κs = search needs
+
+returns-3 : tie.Need-returns-3
+returns-3 c = search (needs, word-told)
+
 has-word-requires : tie.Need-has-word-requires
 has-word-requires c κs = search needs
 
-returns-3 : tie.Need-returns-3
-returns-3 c = search needs
+returns-4 : tie.Need-returns-4
+returns-4 c = search needs
 
 pub has-near-spec : {M : Type 1} → statement M
-has-near-spec = tie.close (tie.spec is-there-requires returns about-requires is-there-requires-2 returns-2 has-word-requires returns-3)
+has-near-spec =
+    tie.close
+    (tie.spec
+    is-there-requires
+    returns
+    beside-requires
+    is-there-requires-2
+    returns-2
+    about-requires
+    is-there-requires-3
+    returns-3
+    has-word-requires
+    returns-4)

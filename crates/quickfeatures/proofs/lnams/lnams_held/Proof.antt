@@ -7,13 +7,16 @@ use Rattle.quickfeatures.proofs.lnams.lnams_held.Statement.{statement}
 use Rattle.quickfeatures.proofs.lnams.lnams_held.Tie as tie
 
 abbrev Inv-loop : tie.InvT-loop
-Inv-loop part work m v shape at₀ at = Related part work m v at
+Inv-loop part work m v shape lie at₀ at = Related part work m v at
 
 abbrev μ-loop : tie.MeasureT-loop
-μ-loop part work m v shape at₀ at = length part - at
+μ-loop part work m v shape lie at₀ at = length part - at
 
 shape-of-requires : tie.Need-shape-of-requires Inv-loop μ-loop
 shape-of-requires c κs = search needs
+
+lie-of-requires : tie.Need-lie-of-requires Inv-loop μ-loop
+lie-of-requires c κs = search needs
 
 loop-holds : tie.Need-loop-holds Inv-loop μ-loop
 loop-holds c = search (needs, related-start)
@@ -37,7 +40,7 @@ part-lnam-held-end : tie.Need-part-lnam-held-end Inv-loop μ-loop
 part-lnam-held-end c = search needs
 
 lnam-held-requires : tie.Need-lnam-held-requires Inv-loop μ-loop
-lnam-held-requires c κs = (search (needs, lnam-long), search needs)
+lnam-held-requires c κs = (search (needs, lnam-long), search needs, search needs)
 
 returns-2 : tie.Need-returns-2 Inv-loop μ-loop
 returns-2 c = search (needs, lnams-no)
@@ -55,6 +58,7 @@ lnams-held-spec =
     Inv-loop
     μ-loop
     shape-of-requires
+    lie-of-requires
     loop-holds
     entry-len-at-requires
     returns
