@@ -1,4 +1,4 @@
--- The lists of an item counted and copied: turns of the loops. Assumes nothing.
+-- The lists of an item counted and copied: a field, and turns of the loops. Assumes nothing.
 use Prim.Native.Nat.{ℕ, zero, suc, _+_, _-_, _≤_, _<_}
 use mathlib.Core.List.{List, [], _∷_, _++_, append-assoc}
 use mathlib.Core.Path.{_≡_, refl, sym, ap, _∙_}
@@ -10,49 +10,58 @@ use Rattle.octets.specs.Number.{bytesOf}
 use Rattle.octets.specs.Area.{Wrote, Going}
 use Rattle.octets.proofs.AreaLaws.{wrote-join, wrote-as, wrote-none, wrote-length, going-start, going-step, going-end, going-room}
 use Rattle.iso8211.specs.Field.{countAt, fieldAt}
+use Rattle.iso8211.specs.Premises.{HeadOf, Due}
+use Rattle.iso8211.specs.declared.field.Head.{Head}
 use Rattle.iso8211.specs.declared.field.Field.{Field}
 use Rattle.table.specs.Table.{kindOf}
 use Rattle.items.specs.Premises.{LaidOut}
 use Rattle.items.specs.Lists.{partAt, joinFrom, listAt}
 use Rattle.items.proofs.ListsLaws.{part-yes, part-no, join-next, join-end, join-all, list-short, field-ends}
+use Rattle.items.proofs.CountLaws.{kind-same, kind-other, lent-is}
 use Rattle.records.specs.Pieces.{Piece}
 use Rattle.records.specs.Written.{bodyOf}
 use Rattle.itemrows.specs.Joined.{fieldPiece, fieldPieces, Totals}
 
--- ---- one field
-module _ (s : List ℕ) (at k j tag kind : ℕ) (f : Field) (laid : LaidOut s at) (here : j < countAt s at) (read : f ≡ fieldAt s at j)
-    (named : tag ≡ fieldAt s at j .tag) (told : kind ≡ kindOf tag) (same : kind ≡ k) where
-  part-is : partAt s at k j ≡ take (f .length - 1) (drop (f .start) s)
-  part-is =
-      part-yes s at k j (ap kindOf (sym named) ∙ sym told ∙ same)
-      ∙ ap (λ (g : Field). take (g .length - 1) (drop (g .start) s)) (sym read)
+-- ---- one field counted: tag is that of field j as it is read, and kind its kind
+module _ (s : List ℕ) (at k j tag kind : ℕ) (named : tag ≡ fieldAt s at j .tag) (told : kind ≡ kindOf tag) where
+  pub part-long : (f : Field) → LaidOut s at → j < countAt s at → f ≡ fieldAt s at j → kind ≡ k → f .length - 1 ≡ length (partAt s at k j)
+  part-long f laid here read same =
+      let is : partAt s at k j ≡ take (f .length - 1) (drop (f .start) s) =
+      part-yes s at k j (kind-same s at k j tag kind named told same) ∙ ap (λ (g : Field). take (g .length - 1) (drop (g .start) s)) (sym read) in
+      sym (ap length is ∙ length-take-le (f .length - 1) (drop (f .start) s) (rw length-drop (omega (arith, field-ends s at j f laid read here))))
 
-  pub part-long : f .length - 1 ≡ length (partAt s at k j)
-  part-long =
-      sym (ap length part-is ∙ length-take-le (f .length - 1) (drop (f .start) s) (rw length-drop (omega (arith, field-ends s at j f laid read here))))
-
-  cut : f .start + (f .length - 1) - f .start ≡ f .length - 1
-  cut = omega arith
-
-  pub part-room : (p n : ℕ) → p + length (partAt s at k j) ≤ n → p + length (take (f .start + (f .length - 1) - f .start) (drop (f .start) s)) ≤ n
-  part-room p n room = rw (cut, ← part-is) room
-
-  pub part-copied : {a b : List ℕ} {p r : ℕ} → Wrote a p (take (f .start + (f .length - 1) - f .start) (drop (f .start) s)) b r → Wrote a p (partAt s at k j) b r
-  part-copied w = wrote-as (partAt s at k j) (ap (λ (n : ℕ). take n (drop (f .start) s)) cut ∙ sym part-is) w
+  pub part-short : (kind ≡ k → ⊥) → 0 ≡ length (partAt s at k j)
+  part-short other = sym (ap length (part-no s at k j (kind-other s at k j tag kind named told other)))
 
 pub part-most : {s : List ℕ} {at : ℕ} (j : ℕ) (f : Field) → LaidOut s at → j < countAt s at → f ≡ fieldAt s at j → f .length - 1 ≤ 300000
 part-most {s} {at} j f laid here read =
     rw read (let within = laid .inside .fields j here .within in let after = laid .inside .fields j here .after in let small = laid .inside .small in omega arith)
 
-module _ (s : List ℕ) (at k j tag kind : ℕ) (named : tag ≡ fieldAt s at j .tag) (told : kind ≡ kindOf tag) (other : kind ≡ k → ⊥) where
-  part-none : partAt s at k j ≡ []
-  part-none = part-no s at k j (λ e. other (told ∙ ap kindOf named ∙ e))
+-- ---- one field copied: f is field j as it is read, and kind its kind
+module _ (s : List ℕ) (at k j kind : ℕ) (f : Field) (read : f ≡ fieldAt s at j) (told : kind ≡ kindOf (f .tag)) where
+  named : f .tag ≡ fieldAt s at j .tag
+  named = ap (λ (g : Field). g .tag) read
 
-  pub part-short : 0 ≡ length (partAt s at k j)
-  part-short = sym (ap length part-none)
+  part-lent : kind ≡ k → take (f .start + (f .length - 1) - f .start) (drop (f .start) s) ≡ partAt s at k j
+  part-lent same = lent-is s at j f read ∙ sym (part-yes s at k j (kind-same s at k j (f .tag) kind named told same))
 
-  pub part-passed : (a : List ℕ) (p : ℕ) → p + length (partAt s at k j) ≤ length a → Wrote a p (partAt s at k j) a p
-  part-passed a p room = wrote-as (partAt s at k j) (sym part-none) (wrote-none a p (omega arith))
+  pub part-room : (p n : ℕ) → kind ≡ k → p + length (partAt s at k j) ≤ n → p + length (take (f .start + (f .length - 1) - f .start) (drop (f .start) s)) ≤ n
+  part-room p n same room = rw (part-lent same) room
+
+  pub part-copied : {a b : List ℕ} {p r : ℕ} → kind ≡ k → Wrote a p (take (f .start + (f .length - 1) - f .start) (drop (f .start) s)) b r
+      → Wrote a p (partAt s at k j) b r
+  part-copied same w = wrote-as (partAt s at k j) (part-lent same) w
+
+  pub part-passed : (a : List ℕ) (p : ℕ) → (kind ≡ k → ⊥) → p + length (partAt s at k j) ≤ length a → Wrote a p (partAt s at k j) a p
+  part-passed a p other room =
+      wrote-as (partAt s at k j) (sym (part-no s at k j (kind-other s at k j (f .tag) kind named told other))) (wrote-none a p (omega arith))
+
+-- ---- where the next field is due
+pub due-start : {s : List ℕ} {at : ℕ} (h : Head) → LaidOut s at → HeadOf s at h → Due s at 0 (at + h .base)
+due-start {s} {at} h laid head = record { is = λ here. ap (λ (n : ℕ). at + n) (head .base) ∙ sym (laid .inside .front) }
+
+pub due-on : {s : List ℕ} {at : ℕ} (j : ℕ) (f : Field) → LaidOut s at → f ≡ fieldAt s at j → Due s at (j + 1) (f .start + f .length)
+due-on j f laid read = record { is = λ more. rw read (sym (laid .inside .gapless j more)) }
 
 -- ---- all fields
 pub total-start : (s : List ℕ) (at k : ℕ) → length (listAt s at k) ≡ 0 + length (joinFrom (countAt s at - 0) s at k 0)

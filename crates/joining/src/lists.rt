@@ -3,14 +3,16 @@ ghost use Prim.Native.Nat.{_+_, _≤_, _<_};
 ghost use mathlib.Core.Path.{_≡_};
 ghost use lib.ListN.{length};
 ghost use Rattle.octets.specs.Area.{Wrote};
-ghost use Rattle.iso8211.specs.Field.{countAt};
+ghost use Rattle.iso8211.specs.Field.{countAt, fieldAt};
 ghost use Rattle.iso8211.specs.Premises.{HeadOf};
 ghost use Rattle.items.specs.Premises.{LaidOut};
 ghost use Rattle.items.specs.Lists.{partAt, listAt};
 ghost use Rattle.records.specs.Written.{bodyOf};
 ghost use Rattle.itemrows.specs.Joined.{fieldPiece, fieldPieces, Totals};
+use iso8211::field::Field;
 use iso8211::field::Head;
 use iso8211::field::field_at;
+use iso8211::field::field_on;
 use iso8211::field::tag_of;
 use octets::area::copy;
 use octets::number::put1;
@@ -54,13 +56,20 @@ pub fn totals(s: &[u8], at: usize, h: Head, kinds: [usize; 4]) -> [u32; 4]
     [a, b, c, d]
 }
 
-// What field j brings to the list of kind k, copied.
-fn put_part(s: &[u8], at: usize, h: Head, k: usize, j: usize, out: &mut [u8], place: usize) -> usize
-    requires { ⌜ LaidOut (now s) at × HeadOf (now s) at h × (j < countAt (now s) at) × (place + length (partAt (now s) at k j) ≤ length (now out)) ⌝ }
+// What field j, which is f, brings to the list of kind k, copied.
+fn put_part(
+    s: &[u8],
+    at: usize,
+    k: usize,
+    j: usize,
+    f: Field,
+    out: &mut [u8],
+    place: usize,
+) -> usize
+    requires { ⌜ LaidOut (now s) at × (j < countAt (now s) at) × (f ≡ fieldAt (now s) at j) × (place + length (partAt (now s) at k j) ≤ length (now out)) ⌝ }
     ensures { λ r. ⌜ Wrote (now (out .entry)) place (partAt (now (s .entry)) at k j) (now (out .exit)) r ⌝ }
 {
-    if kind_of(tag_of(s, at, h, j)) == k {
-        let f = field_at(s, at, h, j);
+    if kind_of(f.tag) == k {
         let from = f.start;
         let to = from + (f.length - 1);
         return copy(&s[from..to], out, place);
@@ -68,16 +77,20 @@ fn put_part(s: &[u8], at: usize, h: Head, k: usize, j: usize, out: &mut [u8], pl
     place
 }
 
-// The bytes of the list of kind k, copied.
+// The bytes of the list of kind k, copied. Each field is read where the one before it ends, so that
+// no position is.
 pub fn put_list(s: &[u8], at: usize, h: Head, k: usize, out: &mut [u8], place: usize) -> usize
     requires { ⌜ LaidOut (now s) at × HeadOf (now s) at h × (place + length (listAt (now s) at k) ≤ length (now out)) ⌝ }
     ensures { λ r. ⌜ Wrote (now (out .entry)) place (listAt (now (s .entry)) at k) (now (out .exit)) r ⌝ }
 {
     let fields = h.count;
+    let mut due = at + h.base;
     let mut next = place;
     let mut j: usize = 0;
     while j < fields {
-        next = put_part(s, at, h, k, j, out, next);
+        let f = field_on(s, at, h, j, due);
+        due = f.start + f.length;
+        next = put_part(s, at, k, j, f, out, next);
         j += 1;
     }
     next
