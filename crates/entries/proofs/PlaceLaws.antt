@@ -1,20 +1,22 @@
 -- Laws of the places at which entries start: the bytes before a place are the entries before it, and from a place on stand the
--- entries from it on. For shapes without text entry k starts at k times the fixed bytes. Assumes nothing.
-use Prim.Native.Nat.{ℕ, zero, suc, _+_, _-_, _*_, _≤_, _<_}
+-- entries from it on. For shapes without text entry k starts at k times the fixed bytes, and a division counts them. Assumes nothing.
+use Prim.Native.Nat.{ℕ, zero, suc, _+_, _-_, _*_, _/_, _≤_, _<_}
 use mathlib.Core.Bool.{true}
 use mathlib.Core.List.{List, [], _∷_, _++_, flatten, append-assoc, append-nil}
 use mathlib.Core.Path.{_≡_, refl, sym, ap, _∙_}
-use mathlib.Core.Logic.{_⊎_, ⊎-elim}
-use native.Mathlib.Nat.{eq-zero-or-pos, suc-mul, zero-mul, add-comm}
+use mathlib.Core.Logic.{⊎-elim}
+use native.Mathlib.Nat.{eq-zero-or-pos, suc-mul, zero-mul, add-comm, div-eq-of-lt, div-eq-sub-div}
 use native.Mathlib.Numerals.{add-one}
 use native.Mathlib.Omega.{arith}
 use lib.ListN.{length, take, drop, getD, length-append, length-drop, take-append-drop}
 use lib.Seq.{take-suc, length-take-le, drop-drop, drop-cons, take-append-le, take-append-add, take-append-seam, take-all, take-nil}
+use Rattle.octets.proofs.Cases.{le-or-lt}
 use Rattle.entries.specs.declared.Shape.{Shape}
-use Rattle.entries.specs.Entries.{entryLen, entriesOf, wholeGood}
-use Rattle.entries.specs.Premises.{Whole, place}
-use Rattle.entries.proofs.EntryLaws.{entry-within, fixed-long}
-use Rattle.entries.proofs.EntriesLaws.{flatten-append, entries-none, entries-more, entries-rest, entries-append, whole-good}
+use Rattle.entries.specs.declared.Extent.{Extent}
+use Rattle.entries.specs.Entries.{entryLen, entriesOf, extentOf, wholeGood}
+use Rattle.entries.specs.Premises.{Sound, Whole, place}
+use Rattle.entries.proofs.EntryLaws.{entry-within, entry-bare, fixed-long}
+use Rattle.entries.proofs.EntriesLaws.{flatten-append, entries-none, entries-more, by-entries, entries-rest, entries-append, whole-good}
 
 -- ---- the three equations; nothing after them opens place
 pub place-first : (sh : Shape) (bs : List ℕ) → place sh 0 bs ≡ 0
@@ -126,12 +128,55 @@ fixed-entry sh k bs u h =
     let place-is = fixed-place sh k bs u (omega arith) in
     entry-at sh k bs h ∙ rw (fixed-long sh (drop (place sh k bs) bs) u (place-some sh k bs h), place-is)
 
-pub fixed-count : {sh : Shape} {bs : List ℕ} → sh .unit ≡ 0 → Whole sh bs → length bs ≡ length (entriesOf sh bs) * sh .fixed
-fixed-count {sh} {bs} u w =
+pub fixed-end : (sh : Shape) (bs : List ℕ) → sh .unit ≡ 0 → length (flatten (entriesOf sh bs)) ≡ length (entriesOf sh bs) * sh .fixed
+fixed-end sh bs u =
     let count = length (entriesOf sh bs) in
-    ap length (sym (w .is)) ∙ sym (place-end sh count bs (omega arith)) ∙ fixed-place sh count bs u (omega arith)
+    sym (place-end sh count bs (omega arith)) ∙ fixed-place sh count bs u (omega arith)
+
+pub fixed-count : {sh : Shape} {bs : List ℕ} → sh .unit ≡ 0 → Whole sh bs → length bs ≡ length (entriesOf sh bs) * sh .fixed
+fixed-count {sh} {bs} u w = ap length (sym (w .is)) ∙ fixed-end sh bs u
 
 pub fixed-whole : (sh : Shape) (bs : List ℕ) → sh .unit ≡ 0 → wholeGood sh bs ≡ true
     → (length bs ≡ length (entriesOf sh bs) * sh .fixed)
     × ((k : ℕ) → k < length (entriesOf sh bs) → getD (entriesOf sh bs) k [] ≡ take (sh .fixed) (drop (k * sh .fixed) bs))
 fixed-whole sh bs u good = (fixed-count u (whole-good sh bs good .0), λ k h. fixed-entry sh k bs u h)
+
+-- ---- the same by the number of bytes: a division counts such entries
+bare-short : (sh : Shape) (bs : List ℕ) → sh .unit ≡ 0 → 1 ≤ sh .fixed → entryLen sh bs ≡ 0 → length bs < sh .fixed
+bare-short sh bs bare some none =
+    ⊎-elim
+    (λ (h : sh .fixed ≤ length bs). absurd (omega (arith, entry-bare sh bs h bare)))
+    (λ (h : length bs < sh .fixed). h)
+    (le-or-lt (sh .fixed) (length bs))
+
+pub bare-count : (sh : Shape) → sh .unit ≡ 0 → 1 ≤ sh .fixed → (bs : List ℕ) → length (entriesOf sh bs) ≡ length bs / (sh .fixed)
+bare-count sh bare some =
+    by-entries (λ bs. length (entriesOf sh bs) ≡ length bs / (sh .fixed)) sh
+    (λ bs none. rw (entries-none sh bs none) (sym (div-eq-of-lt (bare-short sh bs bare some none))))
+    (λ bs more rest.
+    let one : entryLen sh bs ≡ sh .fixed = fixed-long sh bs bare more in
+    let within : sh .fixed ≤ length bs = omega (arith, one, entry-within sh bs) in
+    let less : length (drop (entryLen sh bs) bs) ≡ length bs - sh .fixed = length-drop (entryLen sh bs) bs ∙ ap (λ (n : ℕ). length bs - n) one in
+    count-more sh bs more ∙ ap suc (rest ∙ ap (λ (n : ℕ). n / (sh .fixed)) less) ∙ sym (add-one ((length bs - sh .fixed) / (sh .fixed)))
+    ∙ sym (div-eq-sub-div some within))
+
+pub even-extent : (sh : Shape) (bs : List ℕ) → Sound sh → sh .unit ≡ 0
+    → record { count = length bs / (sh .fixed); end = length bs / (sh .fixed) * sh .fixed } ≡ extentOf sh bs
+even-extent sh bs sound bare = rw (fixed-end sh bs bare, bare-count sh bare (sound .some) bs)
+
+-- ---- the same from an extent in hand
+module _ (sh : Shape) (bs : List ℕ) (k : ℕ) (all : Extent) (is : all ≡ extentOf sh bs) where
+  module _ (here : k < all .count) where
+    below : k ≤ length (entriesOf sh bs)
+    below = let count = ap (λ (x : Extent). x .count) is in omega arith
+
+    pub even-place : sh .unit ≡ 0 → k * sh .fixed ≡ place sh k bs
+    even-place bare = sym (fixed-place sh k bs bare below)
+
+    pub even-within : sh .unit ≡ 0 → k * sh .fixed ≤ length bs
+    even-within bare = rw (even-place bare) (place-within sh k bs)
+
+  pub even-past : all .count ≤ k → all .end ≡ place sh k bs
+  even-past past =
+      let count = ap (λ (x : Extent). x .count) is in
+      ap (λ (x : Extent). x .end) is ∙ sym (place-end sh k bs (omega arith))

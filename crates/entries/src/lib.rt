@@ -77,11 +77,27 @@ pub fn entry_len(b: &[u8], sh: Shape) -> usize
     entry_len_at(b, 0, sh)
 }
 
+// The extent of entries without a text: all have the fixed bytes, so that a division counts them.
+fn even_extent(b: &[u8], sh: Shape) -> Extent
+    requires { ⌜ Sound sh × (sh .unit ≡ 0) ⌝ }
+    ensures { λ r. ⌜ (r ≡ extentOf sh (now (b .entry))) × (r .end ≤ length (now (b .entry))) × (r .count ≤ length (now (b .entry))) ⌝ }
+{
+    let fixed = sh.fixed;
+    let count = b.len() / fixed;
+    Extent {
+        count,
+        end: count * fixed,
+    }
+}
+
 // How many whole entries stand at the front, and where they end.
 pub fn extent_of(b: &[u8], sh: Shape) -> Extent
     requires { ⌜ Sound sh ⌝ }
     ensures { λ r. ⌜ (r ≡ extentOf sh (now (b .entry))) × (r .end ≤ length (now (b .entry))) × (r .count ≤ length (now (b .entry))) ⌝ }
 {
+    if sh.unit == 0 {
+        return even_extent(b, sh);
+    }
     let mut at: usize = 0;
     let mut count: usize = 0;
     loop {
@@ -108,11 +124,26 @@ pub fn whole(b: &[u8], sh: Shape) -> bool
     end == b.len()
 }
 
+// The place of entry k where no entry has a text: a product.
+fn even_place(b: &[u8], sh: Shape, k: usize) -> usize
+    requires { ⌜ Sound sh × (sh .unit ≡ 0) ⌝ }
+    ensures { λ r. ⌜ (r ≡ place sh k (now (b .entry))) × (r ≤ length (now (b .entry))) ⌝ }
+{
+    let all = even_extent(b, sh);
+    if k < all.count {
+        return k * sh.fixed;
+    }
+    all.end
+}
+
 // Where entry k starts; past the last, where the entries end.
 pub fn place_of(b: &[u8], sh: Shape, k: usize) -> usize
     requires { ⌜ Sound sh ⌝ }
     ensures { λ r. ⌜ (r ≡ place sh k (now (b .entry))) × (r ≤ length (now (b .entry))) ⌝ }
 {
+    if sh.unit == 0 {
+        return even_place(b, sh, k);
+    }
     let mut at: usize = 0;
     let mut left = k;
     while 0 < left {

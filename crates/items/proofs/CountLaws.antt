@@ -3,19 +3,16 @@ use Prim.Native.Nat.{ℕ, _+_, _-_, _/_, _≤_, _<_}
 use mathlib.Core.Bool.{true}
 use mathlib.Core.List.{List}
 use mathlib.Core.Path.{_≡_, sym, ap, _∙_}
-use mathlib.Core.Logic.{⊎-elim}
-use native.Mathlib.Nat.{div-eq-of-lt, div-eq-sub-div}
 use native.Mathlib.Omega.{arith}
-use lib.ListN.{length, take, drop, length-append, length-drop}
-use Rattle.octets.proofs.Cases.{le-or-lt}
+use lib.ListN.{length, take, drop, length-append}
 use Rattle.iso8211.specs.Field.{countAt, fieldAt}
 use Rattle.iso8211.specs.declared.field.Field.{Field}
 use Rattle.entries.specs.declared.Shape.{Shape}
 use Rattle.entries.specs.declared.Extent.{Extent}
-use Rattle.entries.specs.Entries.{entryLen, entriesOf, extentOf}
+use Rattle.entries.specs.Entries.{entriesOf, extentOf}
 use Rattle.entries.specs.Premises.{Sound}
-use Rattle.entries.proofs.EntryLaws.{entry-within, entry-bare, fixed-long}
-use Rattle.entries.proofs.EntriesLaws.{entries-nil, entries-none, entries-more, by-entries}
+use Rattle.entries.proofs.EntriesLaws.{entries-nil}
+use Rattle.entries.proofs.PlaceLaws.{bare-count}
 use Rattle.table.specs.Table.{rowOf, kindOf}
 use Rattle.layout.specs.Layout.{shapeOf}
 use Rattle.layout.specs.Record.{kindAt, contentAt}
@@ -23,25 +20,6 @@ use Rattle.items.specs.Premises.{LaidOut}
 use Rattle.items.specs.Lists.{partAt, joinFrom, entriesAt}
 use Rattle.layout.proofs.Promise.{content-length}
 use Rattle.items.proofs.ListsLaws.{part-yes, part-no, entries-next, entries-end, entries-all, list-few}
-
--- ---- entries without a text are all of one length, and so counted by a division
-bare-short : (sh : Shape) (bs : List ℕ) → sh .unit ≡ 0 → 1 ≤ sh .fixed → entryLen sh bs ≡ 0 → length bs < sh .fixed
-bare-short sh bs bare some none =
-    ⊎-elim
-    (λ (h : sh .fixed ≤ length bs). absurd (omega (arith, entry-bare sh bs h bare)))
-    (λ (h : length bs < sh .fixed). h)
-    (le-or-lt (sh .fixed) (length bs))
-
-pub bare-count : (sh : Shape) → sh .unit ≡ 0 → 1 ≤ sh .fixed → (bs : List ℕ) → length (entriesOf sh bs) ≡ length bs / (sh .fixed)
-bare-count sh bare some =
-    by-entries (λ bs. length (entriesOf sh bs) ≡ length bs / (sh .fixed)) sh
-    (λ bs none. rw (entries-none sh bs none) (sym (div-eq-of-lt (bare-short sh bs bare some none))))
-    (λ bs more rest.
-    let one : entryLen sh bs ≡ sh .fixed = fixed-long sh bs bare more in
-    let within : sh .fixed ≤ length bs = omega (arith, one, entry-within sh bs) in
-    let cut : length (entriesOf sh bs) ≡ length (entriesOf sh (drop (entryLen sh bs) bs)) + 1 = rw (entries-more sh bs more) (omega arith) in
-    let less : length (drop (entryLen sh bs) bs) ≡ length bs - sh .fixed = length-drop (entryLen sh bs) bs ∙ ap (λ (n : ℕ). length bs - n) one in
-    cut ∙ ap (λ (n : ℕ). n + 1) (rest ∙ ap (λ (n : ℕ). n / (sh .fixed)) less) ∙ sym (div-eq-sub-div some within))
 
 -- ---- a field by its tag as it is read: t is the tag of field j, and n its kind
 module _ (s : List ℕ) (at k j t n : ℕ) (tagged : t ≡ fieldAt s at j .tag) (kind : n ≡ kindOf t) where

@@ -10,13 +10,13 @@ use lib.Seq.{take-take, take-nil}
 use Rattle.entries.specs.declared.Shape.{Shape}
 use Rattle.entries.specs.Entries.{entriesOf}
 use Rattle.entries.proofs.EntryLaws.{len-short, len-bare}
+use Rattle.entries.proofs.PlaceLaws.{bare-count}
 use Rattle.entries.proofs.WalkLaws.{walk-end, walk-more}
 use Rattle.table.specs.Table.{rowOf, VRPT, SG2D, SG3D, FSPT}
 use Rattle.layout.specs.Layout.{shapeOf}
 use Rattle.items.specs.Lists.{entriesAt}
 use Rattle.items.proofs.KindLaws.{vrpt-fixed, sg2d-fixed, sg3d-fixed, fspt-fixed, vrpt-bare, sg2d-bare, sg3d-bare, fspt-bare}
 use Rattle.items.proofs.PartLaws.{bare-shape}
-use Rattle.items.proofs.CountLaws.{bare-count}
 use Rattle.spans.specs.Spans.{Tagged, SpanIn, SpanOf, restOf, Lies}
 use Rattle.spans.specs.declared.Span.{Span}
 use Rattle.spans.proofs.TagLaws.{vrpt-tag, sg2d-tag, sg3d-tag, fspt-tag}

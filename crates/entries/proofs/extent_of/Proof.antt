@@ -16,14 +16,20 @@ Inv-loop b sh at₀ count₀ at count = (at ≤ length b) × (count ≤ at) × (
 abbrev μ-loop : tie.MeasureT-loop
 μ-loop b sh at₀ count₀ at count = length b - at
 
+even-extent-requires : tie.Need-even-extent-requires Inv-loop μ-loop
+even-extent-requires c κs = search needs
+
+returns : tie.Need-returns Inv-loop μ-loop
+returns c = search needs
+
 loop-holds : tie.Need-loop-holds Inv-loop μ-loop
 loop-holds c = search needs
 
 entry-len-at-requires : tie.Need-entry-len-at-requires Inv-loop μ-loop
 entry-len-at-requires c κs = search needs
 
-returns : tie.Need-returns Inv-loop μ-loop
-returns c = search (needs, extent-done)
+returns-2 : tie.Need-returns-2 Inv-loop μ-loop
+returns-2 c = search (needs, extent-done)
 
 add-at : tie.Need-add-at Inv-loop μ-loop
 add-at c = search needs
@@ -43,9 +49,11 @@ extent-of-spec =
     (tie.spec
     Inv-loop
     μ-loop
+    even-extent-requires
+    returns
     loop-holds
     entry-len-at-requires
-    returns
+    returns-2
     add-at
     add-count
     loop-less
