@@ -16,8 +16,13 @@ trap 'rm -f "$listing"' EXIT
 # A function takes its return address, and all that it pushes and subtracts anywhere: what it gives back in between isn't looked at, so the sum is rather too
 # high. One that jumps into another is taken as calling it. A large frame is touched page by page, in a loop down to %r11. One that calls nobody may
 # use 128 bytes more without taking them.
-awk -v repeated='formats::list' -v times=5 -v beyond=128 '
-# The one function that calls itself, and how often it can be open: with 4 levels of brackets left, 3, 2, 1, and none (crates/formats/src/lib.rt).
+awk -v beyond=128 '
+# The functions that call themselves, and how often each can be open: a list of formats with 4 levels of brackets left, 3, 2, 1, and none (crates/formats/src/lib.rt);
+# the arranging of words with 32 levels left, 30, and so on by two to none (crates/words/src/arrange.rt).
+BEGIN {
+    times["formats::list"] = 5
+    times["words::arrange::arrange"] = 17
+}
 function wrong(why) { print "host/stack.sh: " now ": " why | "cat >&2"; bad = 1; exit 1 }
 function number(text, i, sum) {
     for (i = 1; i <= length(text); i++)
@@ -41,7 +46,7 @@ function deepest(name, i, below, most) {
         wrong(open[name] ? "it calls itself" : "no such function")
     open[name] = 1
     for (i = 1; i <= count[name]; i++) {
-        if (called[name, i] == name && name == repeated)
+        if (called[name, i] == name && name in times)
             continue
         below = deepest(called[name, i])
         if (below > most) {
@@ -50,12 +55,12 @@ function deepest(name, i, below, most) {
         }
     }
     open[name] = 0
-    known[name] = most + frame[name] * (name == repeated ? times : 1)
+    known[name] = most + frame[name] * (name in times ? times[name] : 1)
     return known[name]
 }
 function print_call(call, name, way) {
     for (name = call; name != ""; name = next_of[name])
-        way = way " " name "=" frame[name] (name == repeated ? "*" times : "")
+        way = way " " name "=" frame[name] (name in times ? "*" times[name] : "")
     print call, known[call] + beyond way " " beyond
 }
 /^[0-9a-f]+ <.*>:$/ {

@@ -5,3 +5,4 @@ pub mod SortLaws
 pub mod FindLaws
 pub mod HeapLaws
 pub mod ReverseLaws
+pub mod ArrangeLaws

@@ -3,4 +3,5 @@ pub mod Words
 pub mod Order
 pub mod Find
 pub mod Heap
+pub mod Arrange
 pub mod Examples
