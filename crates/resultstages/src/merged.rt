@@ -36,7 +36,8 @@ fn result_into(
     if 65533 < count {
         return answered(SIZE, 3, 0, 0, 0);
     }
-    let plan = planned(cell, update, work, end, count, edits, join, table, room);
+    let scheme = planned(cell, update, work, end, count, edits, join, table, room);
+    let plan = scheme.plan;
     if !plan.fits {
         return answered(SIZE, 3, 0, 0, 0);
     }
@@ -51,6 +52,7 @@ fn result_into(
         end,
         count,
         edits,
+        scheme.same,
         join,
         table,
         room,

@@ -1,6 +1,7 @@
 -- A changed item is built first; of another the mark says where its record stands.
 use Rattle.resultitems.proofs.ItemLaws.{new-stood, kept-stood}
 use Rattle.renewal.proofs.ItemLaws.{new-writable, kept-writable, stood-room, stood-wrote}
+use Rattle.renewal.proofs.SameLaws.{new-same, kept-same}
 use borrow.Author.Needs.{needs}
 use Rattle.renewal.proofs.item.put_at.Statement.{statement}
 use Rattle.renewal.proofs.item.put_at.Tie as tie
@@ -26,8 +27,8 @@ same-length-4 c = search needs
 returns : tie.Need-returns
 returns c = (search (needs, stood-wrote), search needs)
 
-put-item-requires-2 : tie.Need-put-item-requires-2
-put-item-requires-2 c κs = (search (needs, new-writable), search (needs, new-stood, stood-room))
+put-kept-requires : tie.Need-put-kept-requires
+put-kept-requires c κs = (search (needs, new-writable), search (needs, new-same), search (needs, new-stood, stood-room))
 
 same-length-5 : tie.Need-same-length-5
 same-length-5 c = search needs
@@ -35,8 +36,8 @@ same-length-5 c = search needs
 returns-2 : tie.Need-returns-2
 returns-2 c = (search (needs, new-stood, stood-wrote), search needs)
 
-put-item-requires-3 : tie.Need-put-item-requires-3
-put-item-requires-3 c κs = (search (needs, kept-writable), search (needs, kept-stood, stood-room))
+put-kept-requires-2 : tie.Need-put-kept-requires-2
+put-kept-requires-2 c κs = (search (needs, kept-writable), search (needs, kept-same), search (needs, kept-stood, stood-room))
 
 same-length-6 : tie.Need-same-length-6
 same-length-6 c = search needs
@@ -55,9 +56,9 @@ put-at-spec =
     same-length-3
     same-length-4
     returns
-    put-item-requires-2
+    put-kept-requires
     same-length-5
     returns-2
-    put-item-requires-3
+    put-kept-requires-2
     same-length-6
     returns-3)

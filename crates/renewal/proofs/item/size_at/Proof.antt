@@ -1,6 +1,7 @@
 -- A changed item is built first; of another the mark says where its record stands.
 use Rattle.resultitems.proofs.ItemLaws.{new-stood, kept-stood}
 use Rattle.renewal.proofs.ItemLaws.{new-writable, kept-writable, stood-sized}
+use Rattle.renewal.proofs.SameLaws.{changed-told, new-told, kept-told}
 use borrow.Author.Needs.{needs}
 use Rattle.renewal.proofs.item.size_at.Statement.{statement}
 use Rattle.renewal.proofs.item.size_at.Tie as tie
@@ -21,19 +22,19 @@ same-length-3 : tie.Need-same-length-3
 same-length-3 c = search needs
 
 returns : tie.Need-returns
-returns c = (search (needs, stood-sized), search needs)
+returns c = (search (needs, stood-sized), (search (needs, changed-told), search needs))
 
-size-of-requires-2 : tie.Need-size-of-requires-2
-size-of-requires-2 c κs = search (needs, new-writable)
+known-size-requires : tie.Need-known-size-requires
+known-size-requires c κs = search (needs, new-writable)
 
 returns-2 : tie.Need-returns-2
-returns-2 c = (search (needs, new-stood, stood-sized), search needs)
+returns-2 c = (search (needs, new-stood, stood-sized), (search (needs, new-told), search needs))
 
-size-of-requires-3 : tie.Need-size-of-requires-3
-size-of-requires-3 c κs = search (needs, kept-writable)
+known-size-requires-2 : tie.Need-known-size-requires-2
+known-size-requires-2 c κs = search (needs, kept-writable)
 
 returns-3 : tie.Need-returns-3
-returns-3 c = (search (needs, kept-stood, stood-sized), search needs)
+returns-3 c = (search (needs, kept-stood, stood-sized), (search (needs, kept-told), search needs))
 
 pub size-at-spec : {M : Type 1} → statement M
 size-at-spec =
@@ -45,7 +46,7 @@ size-at-spec =
     same-length-2
     same-length-3
     returns
-    size-of-requires-2
+    known-size-requires
     returns-2
-    size-of-requires-3
+    known-size-requires-2
     returns-3)

@@ -32,7 +32,7 @@ same-length-3 : tie.Need-same-length-3
 same-length-3 c = search needs
 
 returns : tie.Need-returns
-returns c = (search (needs, result-told), search needs)
+returns c = (search (needs, result-told), (search needs, search needs))
 
 pub planned-spec : {M : Type 1} → statement M
 planned-spec =

@@ -8,7 +8,7 @@ put-fore-requires : tie.Need-put-fore-requires
 put-fore-requires c κs = (search needs, search (needs, front-room))
 
 put-items-requires : tie.Need-put-items-requires
-put-items-requires c κs = (search needs, search needs, search (needs, items-room))
+put-items-requires c κs = (search needs, search needs, search needs, search (needs, items-room))
 
 same-length : tie.Need-same-length
 same-length c = search needs

@@ -45,7 +45,7 @@ returns-3 : tie.Need-returns-3
 returns-3 c = (search (needs, room-answer, plan-fits, plan-total), search (needs, room-area))
 
 put-result-requires : tie.Need-put-result-requires
-put-result-requires c κs = (search (needs, renewing), search needs, search (needs, plan-room))
+put-result-requires c κs = (search (needs, renewing), search needs, search needs, search (needs, plan-room))
 
 answered-requires-4 : tie.Need-answered-requires-4
 answered-requires-4 c κs = search needs
