@@ -7,18 +7,23 @@ ghost use Rattle.items.specs.Identity.{idAt, rcnmAt, rcidAt, primAt, obj
 use crate::word;
 use iso8211::field::Head;
 use iso8211::field::field_at;
+use iso8211::field::tag_of;
 use octets::number::get1;
 use octets::number::get2;
 use octets::number::get4;
 use octets::number::get8;
 use table::offsets;
+use table::tags;
 ghost use Rattle.items.specs.Premises.{LaidOut, Identified, Featured, nameBound};
 
-// Where the identifier field starts.
+// Where the identifier field starts. Nearly every record begins with a 0001, which has three bytes.
 fn id_at(s: &[u8], at: usize, h: Head) -> usize
     requires { ⌜ LaidOut (now s) at × HeadOf (now s) at h ⌝ }
     ensures { λ r. ⌜ r ≡ idAt (now (s .entry)) at ⌝ }
 {
+    if tag_of(s, at, h, 0) == tags::FIRST {
+        return at + h.base + 3;
+    }
     let f = field_at(s, at, h, 1);
     f.start
 }

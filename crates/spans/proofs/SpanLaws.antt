@@ -18,11 +18,12 @@ use Rattle.iso8211.specs.declared.field.Field.{Field}
 use Rattle.table.specs.Table.{table, rowOf, kindOf, among, asNumber, first, VRID, FRID, FOID}
 use Rattle.table.specs.Text.{bytes}
 use Rattle.layout.specs.Record.{kindAt, contentAt}
-use Rattle.layout.proofs.Promise.{full-first, full-vrid, full-frid, full-foid, content-length}
+use Rattle.layout.proofs.Promise.{full-vrid, full-frid, full-foid}
 use Rattle.items.specs.Lists.{joinFrom, listAt}
 use Rattle.items.specs.Identity.{idAt, rcnmAt}
 use Rattle.items.specs.Premises.{LaidOut, Identified, Featured}
 use Rattle.items.proofs.IdentityLaws.{num-one}
+use Rattle.items.proofs.FrontLaws.{long-is, id-place, front-kind, front-id}
 use Rattle.items.proofs.ListsLaws.{part-yes, part-no, join-end, join-next, join-all, field-some, field-fits}
 use Rattle.items.proofs.CountLaws.{lent-is}
 use Rattle.spans.specs.Spans.{Tagged, Reached, FrontTold, span, spanWith, SpanTo, SpanOf}
@@ -55,23 +56,7 @@ join-pass : (s : List ℕ) (at k j : ℕ) → j < countAt s at → (kindAt s at 
 join-pass s at k j h ne = join-next s at k j h ∙ ap (λ (l : List ℕ). l ++ joinFrom (countAt s at - (j + 1)) s at k (j + 1)) (part-no s at k j ne)
 
 module _ {s : List ℕ} {at : ℕ} (laid : LaidOut s at) where
-  -- the length of a field of which its kind tells how many bytes it has
-  long-is : (j k n : ℕ) → j < countAt s at → kindAt s at j ≡ k → length (contentAt s at j) ≡ n → fieldAt s at j .length ≡ n + 1
-  long-is j k n h kind full =
-      let some = laid .inside .fields j h .long in
-      omega (arith, content-length s at j (laid .inside) h)
-
   module _ (front : kindAt s at 0 ≡ first) where
-    first-long : fieldAt s at 0 .length ≡ 3
-    first-long =
-        let two = laid .two in
-        long-is 0 first 2 (omega arith) front (full-first (contentAt s at 0) (rw front at (laid .fills 0 (omega arith))))
-
-    pub id-place : at + baseAt s at + 3 ≡ idAt s at
-    id-place =
-        let two = laid .two in
-        omega (arith, laid .inside .gapless 0 (omega arith), laid .inside .front, first-long)
-
     fresh-first : (k : ℕ) → rowOf k .list ≡ true → listAt s at k ≡ joinFrom (countAt s at - 1) s at k 1
     fresh-first k list =
         let two = laid .two in
@@ -81,7 +66,7 @@ module _ {s : List ℕ} {at : ℕ} (laid : LaidOut s at) where
       vrid-long : fieldAt s at 1 .length ≡ 9
       vrid-long =
           let two = laid .two in
-          long-is 1 VRID 8 (omega arith) vector (full-vrid (contentAt s at 1) (rw vector at (laid .fills 1 (omega arith))))
+          long-is laid 1 VRID 8 (omega arith) vector (full-vrid (contentAt s at 1) (rw vector at (laid .fills 1 (omega arith))))
 
       vector-reached : (h : Head) (due : ℕ) → HeadOf s at h → due ≡ at + baseAt s at + 12 → Reached s at h 2 due
       vector-reached h due head e =
@@ -90,7 +75,7 @@ module _ {s : List ℕ} {at : ℕ} (laid : LaidOut s at) where
             laid = laid;
             head = head;
             below = two;
-            next = record { is = λ (b : 2 < countAt s at). omega (arith, laid .inside .gapless 1 b, id-place, vrid-long) };
+            next = record { is = λ (b : 2 < countAt s at). omega (arith, laid .inside .gapless 1 b, id-place laid front, vrid-long) };
             fresh = λ (k : ℕ) (list : rowOf k .list ≡ true).
                 fresh-first k list ∙ join-pass s at k 1 (omega arith) (λ (e : kindAt s at 1 ≡ k). no-list-vrid k list (sym vector ∙ e));
           }
@@ -99,15 +84,15 @@ module _ {s : List ℕ} {at : ℕ} (laid : LaidOut s at) where
       frid-long : fieldAt s at 1 .length ≡ 13
       frid-long =
           let two = laid .two in
-          long-is 1 FRID 12 (omega arith) (feature .is) (full-frid (contentAt s at 1) (rw (feature .is) at (laid .fills 1 (omega arith))))
+          long-is laid 1 FRID 12 (omega arith) (feature .is) (full-frid (contentAt s at 1) (rw (feature .is) at (laid .fills 1 (omega arith))))
 
       foid-long : fieldAt s at 2 .length ≡ 9
       foid-long =
           let three = feature .third in
-          long-is 2 FOID 8 (omega arith) (feature .object) (full-foid (contentAt s at 2) (rw (feature .object) at (laid .fills 2 (omega arith))))
+          long-is laid 2 FOID 8 (omega arith) (feature .object) (full-foid (contentAt s at 2) (rw (feature .object) at (laid .fills 2 (omega arith))))
 
       foid-place : at + baseAt s at + 3 + 13 ≡ fieldAt s at 2 .start
-      foid-place = let three = feature .third in omega (arith, laid .inside .gapless 1 (omega arith), id-place, frid-long)
+      foid-place = let three = feature .third in omega (arith, laid .inside .gapless 1 (omega arith), id-place laid front, frid-long)
 
       feature-reached : (h : Head) (due : ℕ) → HeadOf s at h → due ≡ at + baseAt s at + 25 → Reached s at h 3 due
       feature-reached h due head e =
@@ -118,7 +103,7 @@ module _ {s : List ℕ} {at : ℕ} (laid : LaidOut s at) where
             head = head;
             below = three;
             next = record {
-              is = λ (b : 3 < countAt s at). omega (arith, laid .inside .gapless 2 b, laid .inside .gapless 1 (omega arith), id-place, frid-long, foid-long);
+              is = λ (b : 3 < countAt s at). omega (arith, laid .inside .gapless 2 b, laid .inside .gapless 1 (omega arith), id-place laid front, frid-long, foid-long);
             };
             fresh = λ (k : ℕ) (list : rowOf k .list ≡ true).
                 fresh-first k list
@@ -127,10 +112,6 @@ module _ {s : List ℕ} {at : ℕ} (laid : LaidOut s at) where
           }
 
 -- ---- front_of: t is the tag of field 0, u that of field 1, c what was read as RCNM
-first-kind : kindOf 808464433 ≡ first
-unfolding kindOf among table asNumber bytes
-first-kind = refl
-
 vrid-kind : kindOf 1448233284 ≡ VRID
 unfolding kindOf among table asNumber bytes
 vrid-kind = refl
@@ -140,30 +121,30 @@ unfolding FrontTold
 front-other s at h = tt
 
 module _ (s : List ℕ) (at : ℕ) (h : Head) (t : ℕ) (laid : LaidOut s at) (head : HeadOf s at h) (read : t ≡ fieldAt s at 0 .tag) (front : t ≡ 808464433) where
-  front-kind : kindAt s at 0 ≡ first
-  front-kind = ap kindOf (sym read ∙ front) ∙ first-kind
+  first-is : kindAt s at 0 ≡ first
+  first-is = front-kind s at h t laid head read front
 
-  front-id : at + h .base + 3 ≡ idAt s at
-  front-id = ap (λ (b : ℕ). at + b + 3) (head .base) ∙ id-place laid front-kind
+  id-is : at + h .base + 3 ≡ idAt s at
+  id-is = front-id s at h t laid head read front
 
   -- RCNM is there
   pub front-room : Identified s at → at + h .base + 3 + 1 ≤ length s
-  front-room known = let long = known .long in omega (arith, front-id)
+  front-room known = let long = known .long in omega (arith, id-is)
 
   module _ (c : ℕ) (class : Reads s (at + h .base + 3) 1 c) (known : Identified s at) where
     class-is : c ≡ rcnmAt s at
     unfolding rcnmAt
-    class-is = class .is ∙ num-one s (at + h .base + 3) ∙ ap (byteAt s) front-id
+    class-is = class .is ∙ num-one s (at + h .base + 3) ∙ ap (byteAt s) id-is
 
     pub front-feature : c ≡ 100 → FrontTold s at h (Feature (at + h .base + 3) (at + h .base + 3 + 22))
     unfolding FrontTold
     front-feature e =
         let is : rcnmAt s at ≡ 100 = sym class-is ∙ e in
         let base = head .base in (
-          front-id,
+          id-is,
           is,
-          feature-reached laid front-kind (known .feature is) h _ head (omega arith),
-          (let place = foid-place laid front-kind (known .feature is) in omega arith),
+          feature-reached laid first-is (known .feature is) h _ head (omega arith),
+          (let place = foid-place laid first-is (known .feature is) in omega arith),
         )
 
     pub front-vector : (u : ℕ) → (c ≡ 100 → ⊥) → u ≡ fieldAt s at 1 .tag → u ≡ 1448233284
@@ -172,7 +153,7 @@ module _ (s : List ℕ) (at : ℕ) (h : Head) (t : ℕ) (laid : LaidOut s at) (h
     front-vector u ne tagged is =
         let vector : kindAt s at 1 ≡ VRID = ap kindOf (sym tagged ∙ is) ∙ vrid-kind in
         let base = head .base in
-        (front-id, (λ (e : rcnmAt s at ≡ 100). ne (class-is ∙ e)), vector-reached laid front-kind vector h _ head (omega arith))
+        (id-is, (λ (e : rcnmAt s at ≡ 100). ne (class-is ∙ e)), vector-reached laid first-is vector h _ head (omega arith))
 
 -- ---- the walk
 pub span-start : {s : List ℕ} {at j due : ℕ} {h : Head} (tag : ℕ) (sp : Span) → Reached s at h j due → sp ≡ span 0 0 → SpanTo s at tag j sp
