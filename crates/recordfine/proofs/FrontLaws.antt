@@ -13,14 +13,14 @@ use Rattle.octets.specs.Number.{byteAt, numAt}
 use Rattle.octets.specs.Premises.{Reads}
 use Rattle.iso8211.specs.Directory.{tagAt}
 use Rattle.iso8211.specs.Field.{countAt}
-use Rattle.fieldfine.specs.Told.{contentIn}
-use Rattle.fieldfine.specs.Place.{SingleField, PlainField}
-use Rattle.fieldfine.proofs.PlaceLaws.{single-so}
-use Rattle.fieldfine.proofs.FieldLaws.{field-first, field-foid, field-plain}
+use Rattle.fieldfine.specs.Told.{contentIn, groupsGood}
+use Rattle.fieldfine.specs.Place.{listStands, PlainField}
+use Rattle.fieldfine.proofs.PlaceLaws.{single-so, groups-so}
+use Rattle.fieldfine.proofs.FieldLaws.{field-first, field-foid, field-sg2d, field-vrpt, field-plain}
 use Rattle.recordfine.specs.declared.open.Open.{Open}
 use Rattle.recordfine.specs.declared.front.Next.{Next}
 use Rattle.recordfine.specs.Premises.{OpenAt}
-use Rattle.recordfine.specs.Walk.{RowIn, SaysTold, RowIs, FrontTold, Behind, pastFirst}
+use Rattle.recordfine.specs.Walk.{RowIn, SaysTold, RowIs, MarkedTold, FrontTold, Behind, pastFirst, pastVrid}
 use Rattle.recordfine.proofs.DigitLaws.{zero-first, one-digit, two-digits}
 use Rattle.recordfine.proofs.WalkLaws.{passed-start, passed-on, second-room, whole-rows}
 
@@ -72,6 +72,16 @@ is-so a b read same length-is p place q some within last = record {
   };
 }
 
+-- ---- a row whose kind is declared
+pub marked-not : {marks s : List ℕ} {i : ℕ} {h : Open} {tag due long k : ℕ} → MarkedTold marks s i h tag due long k false
+marked-not = record { is = is-not; declared = λ e. never e }
+
+pub marked-so : {marks s : List ℕ} {i : ℕ} {h : Open} {tag due long k : ℕ} (x : ℕ) (a : Bool) → RowIs s i h tag due long a → not a ≡ false → x ≡ getD marks k 0
+    → MarkedTold marks s i h tag due long k (eqb x 1)
+marked-so x a told p read =
+    let so = not-false a p in
+    record { is = record { tagged = λ e. told .tagged so; row = λ e. told .row so }; declared = λ e. sym read ∙ eqb-true _ _ e }
+
 -- ---- a row and its field
 pub front-not : {update : Bool} {stage : ℕ} {marks s : List ℕ} {i : ℕ} {h : Open} {prev tag due long k : ℕ} → FrontTold update stage marks s i h prev tag due long k false
 front-not = record { is = is-not; fine = λ e. never e }
@@ -82,32 +92,6 @@ inside s from long fits =
     let e : from + long - from ≡ long = omega arith in
     let size : length (take long (drop from s)) ≡ long = length-take-le long (drop from s) (rw length-drop (omega arith)) in
     rw (e, size, take-take (long - 1) long (drop from s) (omega arith))
-
--- of a fixed length, its values without rules: it is declared
-marked-so : {update : Bool} {stage : ℕ} {marks s : List ℕ} {i : ℕ} {h : Open} {prev tag due long k : ℕ} (x : ℕ) (a : Bool) → RowIs s i h tag due long a → not a ≡ false
-    → RowIn s i h → x ≡ getD marks k 0 → ((c : List ℕ) → SingleField (length c) (long - 1) marks prev prev k k → PlainField update stage marks prev tag c k)
-    → FrontTold update stage marks s i h prev tag due long k (eqb x 1)
-marked-so {s = s} {h = h} {due = due} {long = long} x a told p room read field =
-    let so = not-false a p in
-    let within = told .row so .within in
-    let high = room .room in
-    let fits = room .fits in
-    let from = h .body + due in
-    let size : length (contentIn (take (from + long - from) (drop from s))) ≡ long - 1 =
-    rw (inside s from long (omega arith)) (length-take-le (long - 1) (drop from s) (rw length-drop (omega arith))) in
-    record {
-      is = record { tagged = λ e. told .tagged so; row = λ e. told .row so };
-      fine = λ e. field _ (single-so size refl (sym read ∙ eqb-true _ _ e));
-    }
-
-module _ {marks s : List ℕ} {i : ℕ} {h : Open} (x : ℕ) (a : Bool) where
-  pub first-so : RowIs s i h 808464433 0 3 a → not a ≡ false → RowIn s i h → x ≡ getD marks 18 0
-      → (update : Bool) (stage : ℕ) → FrontTold update stage marks s i h 20 808464433 0 3 18 (eqb x 1)
-  first-so told p room read update stage = marked-so x a told p room read (λ c f. field-first refl f)
-
-  pub foid-so : RowIs s i h 1179601220 16 9 a → not a ≡ false → RowIn s i h → x ≡ getD marks 11 0
-      → (update : Bool) (stage : ℕ) → FrontTold update stage marks s i h 10 1179601220 16 9 11 (eqb x 1)
-  foid-so told p room read update stage = marked-so x a told p room read (λ c f. field-foid refl refl f)
 
 -- its values with rules: its content ends in the file, and is judged
 pub content-end : {s : List ℕ} {i : ℕ} {h : Open} {tag due n : ℕ} (a : Bool) → RowIs s i h tag due (suc n) a → not a ≡ false → RowIn s i h → h .body + due + n ≤ length s
@@ -154,18 +138,32 @@ module _ {s : List ℕ} {at : ℕ} {h : Open} (o : OpenAt s at h) where
         within = row .within;
       }
 
+  -- whose values have no rules: it is declared, and of that length
+  behind-marked : {update : Bool} {stage : ℕ} {marks : List ℕ} {n : Next} {tag long k : ℕ} {r : Bool} → Behind update stage marks s at h n → n .row < h .body - 1
+      → MarkedTold marks s (n .row) h tag (n .due) long k r → r ≡ true
+      → ((c : List ℕ) → length c ≡ long - 1 → getD marks k 0 ≡ 1 → PlainField update stage marks (n .prev) tag c k) → (k ≡ 20 → ⊥) → eqb (n .prev) k ≡ false
+      → Behind update stage marks s at h (record { row = n .row + (4 + h .lengths + h .positions); prev = k; stamp = n .row; due = n .due + long })
+  behind-marked {n = n} {long = long} so less told r field good apart =
+      let within = told .is .row r .within in
+      let high = o .room in
+      let fits = o .fits in
+      let from = h .body + n .due in
+      let size : length (contentIn (take (from + long - from) (drop from s))) ≡ long - 1 =
+      rw (inside s from long (omega arith)) (length-take-le (long - 1) (drop from s) (rw length-drop (omega arith))) in
+      behind-on so less (record { is = told .is; fine = λ e. field _ size (told .declared e) }) r good apart
+
   pub behind-start : (update : Bool) (stage : ℕ) (marks : List ℕ) → Behind update stage marks s at h (record { row = at + 24; prev = 20; stamp = at; due = 0 })
   behind-start update stage marks = record { passed = λ aall nall t. passed-start update stage marks aall nall _ t o; within = omega arith }
 
-  pub behind-first : {marks : List ℕ} (a : Bool) → ((update : Bool) (stage : ℕ) → FrontTold update stage marks s (at + 24) h 20 808464433 0 3 18 a) → not a ≡ false
+  pub behind-first : {marks : List ℕ} (a : Bool) → MarkedTold marks s (at + 24) h 808464433 0 3 18 a → not a ≡ false
       → (update : Bool) (stage : ℕ) → Behind update stage marks s at h (pastFirst at h)
   behind-first {marks} a first p update stage =
       let less = two-rows in
-      behind-on (behind-start update stage marks) (omega arith) (first update stage) (not-false a p) (λ z. omega arith) refl
+      behind-marked (behind-start update stage marks) (omega arith) first (not-false a p) (λ c size m. field-first refl (single-so size refl m)) (λ z. omega arith) refl
 
   module _ {update : Bool} {stage : ℕ} {marks : List ℕ} (so : Behind update stage marks s at h (pastFirst at h)) (a : Bool) where
-    pub behind-vrid : FrontTold update stage marks s (at + 24 + (4 + h .lengths + h .positions)) h 18 1448233284 3 9 3 a → not a ≡ false → Behind update stage marks s at h
-        (record { row = at + 24 + (4 + h .lengths + h .positions) + (4 + h .lengths + h .positions); prev = 3; stamp = at + 24 + (4 + h .lengths + h .positions); due = 12 })
+    pub behind-vrid : FrontTold update stage marks s (at + 24 + (4 + h .lengths + h .positions)) h 18 1448233284 3 9 3 a → not a ≡ false
+        → Behind update stage marks s at h (pastVrid at h)
     behind-vrid told p = behind-on so two-rows told (not-false a p) (λ z. omega arith) refl
 
     module _ (told : FrontTold update stage marks s (at + 24 + (4 + h .lengths + h .positions)) h 18 1179797828 3 13 10 a) (p : not a ≡ false) where
@@ -174,11 +172,27 @@ module _ {s : List ℕ} {at : ℕ} {h : Open} (o : OpenAt s at h) where
       behind-frid = behind-on so two-rows told (not-false a p) (λ z. omega arith) refl
 
       pub behind-foid : (b : Bool) → at + 24 + (4 + h .lengths + h .positions) + (4 + h .lengths + h .positions) + (4 + h .lengths + h .positions) < h .body
-          → ((update : Bool) (stage : ℕ) → FrontTold update stage marks s (at + 24 + (4 + h .lengths + h .positions) + (4 + h .lengths + h .positions)) h 10 1179601220 16 9 11 b)
-          → not b ≡ false → Behind update stage marks s at h (record {
+          → MarkedTold marks s (at + 24 + (4 + h .lengths + h .positions) + (4 + h .lengths + h .positions)) h 1179601220 16 9 11 b → not b ≡ false
+          → Behind update stage marks s at h (record {
             row = at + 24 + (4 + h .lengths + h .positions) + (4 + h .lengths + h .positions) + (4 + h .lengths + h .positions);
             prev = 11;
             stamp = at + 24 + (4 + h .lengths + h .positions) + (4 + h .lengths + h .positions);
             due = 25;
           })
-      behind-foid b less foid q = behind-on behind-frid (omega arith) (foid update stage) (not-false b q) (λ z. omega arith) refl
+      behind-foid b less foid q =
+          behind-marked behind-frid (omega arith) foid (not-false b q) (λ c size m. field-foid refl refl (single-so size refl m)) (λ z. omega arith) refl
+
+  module _ {marks : List ℕ} (b : Bool) (less : pastVrid at h .row + (4 + h .lengths + h .positions) < h .body) where
+    pub behind-sg2d : MarkedTold marks s (pastVrid at h .row) h 1397174852 12 9 8 b → b ≡ true
+        → (update : Bool) (stage : ℕ) → Behind update stage marks s at h (pastVrid at h)
+        → Behind update stage marks s at h (record { row = pastVrid at h .row + (4 + h .lengths + h .positions); prev = 8; stamp = pastVrid at h .row; due = 21 })
+    unfolding listStands groupsGood
+    behind-sg2d told q update stage so =
+        behind-marked so (omega arith) told q (λ c size m. field-sg2d refl (groups-so true (rw m) refl true (rw size) refl)) (λ z. omega arith) refl
+
+    pub behind-vrpt : MarkedTold marks s (pastVrid at h .row) h 1448235092 12 19 6 b → b ≡ true
+        → (update : Bool) (stage : ℕ) → Behind update stage marks s at h (pastVrid at h)
+        → Behind update stage marks s at h (record { row = pastVrid at h .row + (4 + h .lengths + h .positions); prev = 6; stamp = pastVrid at h .row; due = 31 })
+    unfolding listStands groupsGood
+    behind-vrpt told q update stage so =
+        behind-marked so (omega arith) told q (λ c size m. field-vrpt refl (groups-so true (rw m) refl true (rw size) refl)) (λ z. omega arith) refl

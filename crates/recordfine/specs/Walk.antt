@@ -3,7 +3,7 @@ use Prim.Native.Nat.{ℕ, _+_, _-_, _*_, _≤_, _<_}
 use mathlib.Core.Bool.{Bool, true, false}
 use mathlib.Core.List.{List}
 use mathlib.Core.Path.{_≡_}
-use lib.ListN.{length, take, drop}
+use lib.ListN.{length, take, drop, getD}
 use Rattle.octets.specs.Digits.{numberAt}
 use Rattle.iso8211.specs.Leader.{sizeAt, baseAt}
 use Rattle.iso8211.specs.Directory.{tagAt}
@@ -55,7 +55,12 @@ pub record RowIs (s : List ℕ) (i : ℕ) (h : Open) (tag due long : ℕ) (r : B
   pub tagged : r ≡ true → tag ≡ tagAt s i
   pub row : r ≡ true → RowGood s i (h .lengths) (h .positions) (h .body) (h .end - h .body) due long
 
--- the same, and the field is fine and of kind k
+-- the same, and kind k is declared
+pub record MarkedTold (marks s : List ℕ) (i : ℕ) (h : Open) (tag due long k : ℕ) (r : Bool) : Type 0 where
+  pub is : RowIs s i h tag due long r
+  pub declared : r ≡ true → getD marks k 0 ≡ 1
+
+-- where r says yes, the row at i is such a one, and the field is fine and of kind k
 pub record FrontTold (update : Bool) (stage : ℕ) (marks s : List ℕ) (i : ℕ) (h : Open) (prev tag due long k : ℕ) (r : Bool) : Type 0 where
   pub is : RowIs s i h tag due long r
   pub fine : r ≡ true → PlainField update stage marks prev tag (contentIn (take (h .body + due + long - (h .body + due)) (drop (h .body + due) s))) k
@@ -68,3 +73,8 @@ pub record Behind (update : Bool) (stage : ℕ) (marks s : List ℕ) (at : ℕ) 
 -- where it stands behind a first field of three bytes
 abbrev pub pastFirst : ℕ → Open → Next
 pastFirst at h = record { row = at + 24 + (4 + h .lengths + h .positions); prev = 18; stamp = at + 24; due = 3 }
+
+-- and behind a VRID of nine
+abbrev pub pastVrid : ℕ → Open → Next
+pastVrid at h =
+    record { row = at + 24 + (4 + h .lengths + h .positions) + (4 + h .lengths + h .positions); prev = 3; stamp = at + 24 + (4 + h .lengths + h .positions); due = 12 }

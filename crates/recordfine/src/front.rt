@@ -1,5 +1,6 @@
 // The front of a record: nearly every one begins with a 0001 of three bytes, and goes on with a VRID of
-// nine, or with a FRID of thirteen and a FOID of nine. The numbers of these rows are compared here, not
+// nine, or with a FRID of thirteen and a FOID of nine. Behind a VRID most have an SG2D of one pair, as
+// nodes do, or a VRPT of two pointers, as edges do. The numbers of these rows are compared here, not
 // computed. Told one way: where the rows are others, the walk begins with them.
 ghost use Prim.Native.Nat.{ℕ, _+_, _≤_};
 ghost use mathlib.Core.Bool.{Bool};
@@ -7,7 +8,7 @@ ghost use mathlib.Core.Path.{_≡_};
 ghost use lib.ListN.{length};
 ghost use Rattle.answers.specs.Codes.{mostBytes};
 ghost use Rattle.recordfine.specs.Premises.{OpenAt};
-ghost use Rattle.recordfine.specs.Walk.{RowIn, SaysTold, RowIs, FrontTold, Behind, pastFirst};
+ghost use Rattle.recordfine.specs.Walk.{RowIn, SaysTold, RowIs, MarkedTold, FrontTold, Behind, pastFirst, pastVrid};
 use crate::open::Open;
 use fieldfine::single::frid_field;
 use fieldfine::single::vrid_field;
@@ -73,15 +74,25 @@ fn row_is(s: &[u8], i: usize, h: Open, tag: u32, due: usize, long: usize) -> boo
     s[h.body + (due + long) - 1] == 30
 }
 
-// Whether the row at i is that of a 0001, the first field, that is fine.
-fn first_fine(s: &[u8], i: usize, h: Open, marks: &[u8]) -> bool
-    requires { ⌜ RowIn (now s) i h × (length (now marks) ≡ 20) ⌝ }
-    ensures { λ r. ⌜ ((update : Bool) (stage : ℕ) → FrontTold update stage (now (marks .entry)) (now (s .entry)) i h 20 808464433 0 3 18 r) ⌝ }
+// Whether the row at i is that of a field of kind k with this tag and length, due at `due`, which is
+// framed well and declared.
+fn marked(
+    s: &[u8],
+    i: usize,
+    h: Open,
+    marks: &[u8],
+    tag: u32,
+    due: usize,
+    long: usize,
+    k: usize,
+) -> bool
+    requires { ⌜ RowIn (now s) i h × (length (now marks) ≡ 20) × (due ≤ 99) × (1 ≤ long) × (long ≤ 99) × (k ≤ 19) ⌝ }
+    ensures { λ r. ⌜ MarkedTold (now (marks .entry)) (now (s .entry)) i h tag due long k r ⌝ }
 {
-    if !row_is(s, i, h, tags::FIRST, 0, 3) {
+    if !row_is(s, i, h, tag, due, long) {
         return false;
     }
-    marks[kinds::FIRST] == 1
+    marks[k] == 1
 }
 
 // Whether the row at i is that of a VRID behind its 0001, and the field is fine.
@@ -108,17 +119,6 @@ fn frid_fine(s: &[u8], i: usize, h: Open, marks: &[u8], update: bool, stage: usi
     let from = h.body + 3;
     let to = from + 12;
     frid_field(&s[from..to], marks, kinds::FIRST, stage, update) != START
-}
-
-// Whether the row at i is that of a FOID behind its FRID that is fine.
-fn foid_fine(s: &[u8], i: usize, h: Open, marks: &[u8]) -> bool
-    requires { ⌜ RowIn (now s) i h × (length (now marks) ≡ 20) ⌝ }
-    ensures { λ r. ⌜ ((update : Bool) (stage : ℕ) → FrontTold update stage (now (marks .entry)) (now (s .entry)) i h 10 1179601220 16 9 11 r) ⌝ }
-{
-    if !row_is(s, i, h, tags::FOID, 16, 9) {
-        return false;
-    }
-    marks[kinds::FOID] == 1
 }
 
 // Where the walk over the record at `at`, its 0001 passed, stands behind a FRID and a FOID. A third row
@@ -148,7 +148,7 @@ fn feature_front(s: &[u8], at: usize, h: Open, marks: &[u8], update: bool, stage
     if h.body <= k + w {
         return n;
     }
-    if !foid_fine(s, k, h, marks) {
+    if !marked(s, k, h, marks, tags::FOID, 16, 9, kinds::FOID) {
         return n;
     }
     Next {
@@ -159,13 +159,51 @@ fn feature_front(s: &[u8], at: usize, h: Open, marks: &[u8], update: bool, stage
     }
 }
 
+// Where the walk over the record at `at`, its VRID passed, stands behind an SG2D of one pair or a VRPT of
+// two pointers. A third row need not be there.
+fn vector_front(s: &[u8], at: usize, h: Open, marks: &[u8]) -> Next
+    requires { ⌜ OpenAt (now s) at h × (length (now s) ≤ mostBytes) × (length (now marks) ≡ 20) ⌝ }
+    ensures { λ r. ⌜ ((update : Bool) (stage : ℕ) → Behind update stage (now (marks .entry)) (now (s .entry)) at h (pastVrid at h)
+        → Behind update stage (now (marks .entry)) (now (s .entry)) at h r) ⌝ }
+{
+    let w = 4 + h.lengths + h.positions;
+    let j = at + 24 + w;
+    let k = j + w;
+    let n = Next {
+        row: k,
+        prev: kinds::VRID,
+        stamp: j as u32,
+        due: 12,
+    };
+    if h.body <= k + w {
+        return n;
+    }
+    if marked(s, k, h, marks, tags::SG2D, 12, 9, kinds::SG2D) {
+        return Next {
+            row: k + w,
+            prev: kinds::SG2D,
+            stamp: k as u32,
+            due: 21,
+        };
+    }
+    if marked(s, k, h, marks, tags::VRPT, 12, 19, kinds::VRPT) {
+        return Next {
+            row: k + w,
+            prev: kinds::VRPT,
+            stamp: k as u32,
+            due: 31,
+        };
+    }
+    n
+}
+
 // Where the walk over the record at `at` stands behind its front.
 pub fn front(s: &[u8], at: usize, h: Open, marks: &[u8], update: bool, stage: usize) -> Next
     requires { ⌜ OpenAt (now s) at h × (length (now s) ≤ mostBytes) × (length (now marks) ≡ 20) ⌝ }
     ensures { λ r. ⌜ Behind update stage (now (marks .entry)) (now (s .entry)) at h r ⌝ }
 {
     let i = at + 24;
-    if !first_fine(s, i, h, marks) {
+    if !marked(s, i, h, marks, tags::FIRST, 0, 3, kinds::FIRST) {
         return Next {
             row: i,
             prev: START,
@@ -178,10 +216,5 @@ pub fn front(s: &[u8], at: usize, h: Open, marks: &[u8], update: bool, stage: us
     if !vrid_fine(s, j, h, marks, update, stage) {
         return feature_front(s, at, h, marks, update, stage);
     }
-    Next {
-        row: j + w,
-        prev: kinds::VRID,
-        stamp: j as u32,
-        due: 12,
-    }
+    vector_front(s, at, h, marks)
 }

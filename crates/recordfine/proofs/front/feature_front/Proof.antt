@@ -37,8 +37,8 @@ add-if2 c = search needs
 returns-2 : tie.Need-returns-2
 returns-2 c = search (needs, behind-frid)
 
-foid-fine-requires : tie.Need-foid-fine-requires
-foid-fine-requires c κs = search needs
+marked-requires : tie.Need-marked-requires
+marked-requires c κs = search needs
 
 returns-3 : tie.Need-returns-3
 returns-3 c = search (needs, behind-frid)
@@ -67,7 +67,7 @@ feature-front-spec =
     cast-t16
     add-if2
     returns-2
-    foid-fine-requires
+    marked-requires
     returns-3
     add-t12
     cast-t16-2

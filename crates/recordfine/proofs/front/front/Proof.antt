@@ -1,4 +1,4 @@
--- Behind a first row that is fine, that of a VRID, or those of a feature.
+-- Behind a first row that is fine, those of a vector or those of a feature.
 use Rattle.recordfine.proofs.FrontLaws.{second-in, behind-start, behind-first, behind-vrid}
 use borrow.Author.Needs.{needs}
 use Rattle.recordfine.proofs.front.front.Statement.{statement}
@@ -7,8 +7,8 @@ use Rattle.recordfine.proofs.front.front.Tie as tie
 add-i : tie.Need-add-i
 add-i c = search needs
 
-first-fine-requires : tie.Need-first-fine-requires
-first-fine-requires c κs = search needs
+marked-requires : tie.Need-marked-requires
+marked-requires c κs = search needs
 
 cast-t12 : tie.Need-cast-t12
 cast-t12 c = search needs
@@ -34,21 +34,18 @@ feature-front-requires c κs = search (needs, behind-first)
 returns-2 : tie.Need-returns-2
 returns-2 c = search needs
 
-add-t13 : tie.Need-add-t13
-add-t13 c = search needs
-
-cast-t14 : tie.Need-cast-t14
-cast-t14 c = search needs
+vector-front-requires : tie.Need-vector-front-requires
+vector-front-requires c κs = search needs
 
 returns-3 : tie.Need-returns-3
-returns-3 c = search (needs, behind-vrid, behind-first)
+returns-3 c = c .vector-front .ensures _ _ (behind-vrid (search needs) (search (needs, behind-first)) _ (c .before .before .vrid-fine .ensures) (search needs))
 
 pub front-spec : {M : Type 1} → statement M
 front-spec =
     tie.close
     (tie.spec
     add-i
-    first-fine-requires
+    marked-requires
     cast-t12
     returns
     add-w
@@ -57,6 +54,5 @@ front-spec =
     vrid-fine-requires
     feature-front-requires
     returns-2
-    add-t13
-    cast-t14
+    vector-front-requires
     returns-3)
