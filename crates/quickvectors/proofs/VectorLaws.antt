@@ -27,13 +27,13 @@ use Rattle.lookups.specs.LookupWords.{indexOf}
 use Rattle.lookups.specs.declared.lookup.Found.{Found}
 use Rattle.lookups.specs.declared.lookup.Found.the-variants.{At}
 use Rattle.lookups.proofs.LookupLaws.{code-at}
-use Rattle.vectorshape.specs.Shape.{coordinatesGood, isolatedGood, connectedGood, endGood, addTopi, edgeGood, classGood, vectorGood, shapeGood, shapeCode}
+use Rattle.vectorshape.specs.Shape.{pairGood, coordinatesGood, isolatedGood, connectedGood, endGood, addTopi, edgeGood, classGood, vectorGood, shapeGood, shapeCode}
 use Rattle.pointer.specs.Pointer.{namesCode, pointerCode}
 use Rattle.ring.specs.Ring.{ringCode}
-use Rattle.spans.specs.Spans.{SpanIn, SpanOf, restOf, Lies}
+use Rattle.spans.specs.Spans.{span, SpanIn, SpanOf, restOf, Lies}
 use Rattle.spans.specs.declared.Span.{Span}
 use Rattle.spans.proofs.StrideLaws.{rest-end, rest-more, rest-count, vrpt-lies, sg2d-lies, sg3d-lies}
-use Rattle.quickvectors.specs.Quick.{FaultlessVector, VectorTold, ListTold, bytesIn, NodeTold, PairedTold, HeldTold, EndsTold, EdgeTold}
+use Rattle.quickvectors.specs.Quick.{FaultlessVector, VectorTold, WordlessTold, NodeIn, PairTold, ListTold, bytesIn, NodeTold, PairedTold, HeldTold, EndsTold, EdgeTold}
 use Rattle.quickvectors.proofs.CoordinateLaws.{never}
 
 -- ---- a no tells nothing
@@ -175,38 +175,44 @@ module _ (s : List ℕ) (at : ℕ) (vector : rcnmAt s at ≡ 100 → ⊥) where
     deep-count : length (entriesAt s at SG3D) ≡ bytesIn soundings / 12
     deep-count = ap length (deep-lies .are) ∙ rest-count 12 s (soundings .from) (soundings .to) (deep-lies .within) (omega arith)
 
+    -- a node: no pointer, and its coordinates as its class has them
+    node-lists : ends .from ≡ ends .to → entriesAt s at VRPT ≡ []
+    node-lists none =
+        let l = vrpt-lies s at ends pointers (omega arith) in
+        l .are ∙ rest-end 9 s (ends .from) (ends .to) (l .within) (omega arith)
+
+    node-faultless : (ws : List ℕ) → ends .from ≡ ends .to → classGood (itemAt s at) ≡ true → FaultlessVector comf ws (itemAt s at)
+    unfolding namesCode
+    node-faultless ws none class =
+        let named : namesCode (indexOf ws) (entriesAt s at VRPT) ≡ 0 = rw (node-lists none) in
+        vector-faultless comf ws class coordinates-good named
+
+    node-paired-good : Identified s at → ends .from ≡ ends .to → (rcnmAt s at ≡ 130 → ⊥) → bytesIn pairs ≡ 8 → bytesIn soundings ≡ 0 → classGood (itemAt s at) ≡ true
+    unfolding classGood isolatedGood connectedGood
+    node-paired-good known none node eight zeros =
+        let pair : length (entriesAt s at SG2D) ≡ 1 = omega (arith, flat-count) in
+        let deepless : length (entriesAt s at SG3D) ≡ 0 = omega (arith, deep-count) in
+        ⊎-elim
+        (λ (is : rcnmAt s at ≡ 110). rw (eq-eqb (rcnmAt s at) 110 is, vrpt-said s at, sg2d-said s at, sg3d-said s at, node-lists none, pair, deepless))
+        (λ (ne : rcnmAt s at ≡ 110 → ⊥).
+        ⊎-elim
+        (λ (is : rcnmAt s at ≡ 120).
+        rw (ne-eqb (rcnmAt s at) 110 ne, eq-eqb (rcnmAt s at) 120 is, vrpt-said s at, sg2d-said s at, sg3d-said s at, node-lists none, pair, deepless))
+        (λ (other : rcnmAt s at ≡ 120 → ⊥). absurd (no-class ne other))
+        (eq-or-ne (rcnmAt s at) 120))
+        (eq-or-ne (rcnmAt s at) 110)
+      where
+        no-class : (rcnmAt s at ≡ 110 → ⊥) → (rcnmAt s at ≡ 120 → ⊥) → ⊥
+        no-class a b =
+            ⊎-elim a
+            (λ (r : (rcnmAt s at ≡ 120) ⊎ ((rcnmAt s at ≡ 130) ⊎ (rcnmAt s at ≡ 100))).
+            ⊎-elim b (λ (t : (rcnmAt s at ≡ 130) ⊎ (rcnmAt s at ≡ 100)). ⊎-elim node vector t) r)
+            (known .class)
+
     module _ (work : List ℕ) (m : ℕ) (c : ℕ) (known : Identified s at) (id : ℕ) (there : id ≡ idAt s at) (class : Reads s id 1 c) where
       class-is : c ≡ rcnmAt s at
       unfolding rcnmAt
       class-is = class .is ∙ num-one s id ∙ ap (byteAt s) there
-
-      -- a node: no pointer, and its coordinates as its class has them
-      node-lists : ends .from ≡ ends .to → entriesAt s at VRPT ≡ []
-      node-lists none =
-          let l = vrpt-lies s at ends pointers (omega arith) in
-          l .are ∙ rest-end 9 s (ends .from) (ends .to) (l .within) (omega arith)
-
-      node-paired-good : ends .from ≡ ends .to → (c ≡ 130 → ⊥) → bytesIn pairs ≡ 8 → bytesIn soundings ≡ 0 → classGood (itemAt s at) ≡ true
-      unfolding classGood isolatedGood connectedGood
-      node-paired-good none node eight zeros =
-          let pair : length (entriesAt s at SG2D) ≡ 1 = omega (arith, flat-count) in
-          let deepless : length (entriesAt s at SG3D) ≡ 0 = omega (arith, deep-count) in
-          ⊎-elim
-          (λ (is : rcnmAt s at ≡ 110). rw (eq-eqb (rcnmAt s at) 110 is, vrpt-said s at, sg2d-said s at, sg3d-said s at, node-lists none, pair, deepless))
-          (λ (ne : rcnmAt s at ≡ 110 → ⊥).
-          ⊎-elim
-          (λ (is : rcnmAt s at ≡ 120).
-          rw (ne-eqb (rcnmAt s at) 110 ne, eq-eqb (rcnmAt s at) 120 is, vrpt-said s at, sg2d-said s at, sg3d-said s at, node-lists none, pair, deepless))
-          (λ (other : rcnmAt s at ≡ 120 → ⊥). absurd (no-class ne other))
-          (eq-or-ne (rcnmAt s at) 120))
-          (eq-or-ne (rcnmAt s at) 110)
-        where
-          no-class : (rcnmAt s at ≡ 110 → ⊥) → (rcnmAt s at ≡ 120 → ⊥) → ⊥
-          no-class a b =
-              ⊎-elim a
-              (λ (r : (rcnmAt s at ≡ 120) ⊎ ((rcnmAt s at ≡ 130) ⊎ (rcnmAt s at ≡ 100))).
-              ⊎-elim b (λ (t : (rcnmAt s at ≡ 130) ⊎ (rcnmAt s at ≡ 100)). ⊎-elim (λ (u : rcnmAt s at ≡ 130). node (class-is ∙ u)) vector t) r)
-              (known .class)
 
       node-sounded-good : ends .from ≡ ends .to → c ≡ 110 → bytesIn pairs ≡ 0 → 12 ≤ bytesIn soundings → classGood (itemAt s at) ≡ true
       unfolding classGood isolatedGood
@@ -216,17 +222,15 @@ module _ (s : List ℕ) (at : ℕ) (vector : rcnmAt s at ≡ 100 → ⊥) where
           rw (eq-eqb (rcnmAt s at) 110 (sym class-is ∙ is), vrpt-said s at, sg2d-said s at, sg3d-said s at, node-lists none, pairless, sounded)
 
       pub told-node : (r : Bool) → (c ≡ 130 → ⊥) → NodeTold c ends pairs soundings r → VectorTold comf (wordsIn work 0 m) (itemAt s at) r
-      unfolding namesCode
       told-node r node told = record {
         is = λ (e : r ≡ true).
             let none = told .none e in
-            let named : namesCode (indexOf (wordsIn work 0 m)) (entriesAt s at VRPT) ≡ 0 = rw (node-lists none) in
-            vector-faultless comf (wordsIn work 0 m)
+            node-faultless (wordsIn work 0 m) none
             (⊎-elim
-            (λ (one : (bytesIn pairs ≡ 8) × (bytesIn soundings ≡ 0)). node-paired-good none node (one .0) (one .1))
+            (λ (one : (bytesIn pairs ≡ 8) × (bytesIn soundings ≡ 0)).
+            node-paired-good known none (λ (u : rcnmAt s at ≡ 130). node (class-is ∙ u)) (one .0) (one .1))
             (λ (many : (c ≡ 110) × (bytesIn pairs ≡ 0) × (12 ≤ bytesIn soundings)). node-sounded-good none (many .0) (many .1) (many .2))
-            (told .is e))
-            coordinates-good named;
+            (told .is e));
       }
 
       pub told-edge : (r : Bool) → c ≡ 130 → soundings .from ≡ soundings .to → EdgeTold s ends work m r → VectorTold comf (wordsIn work 0 m) (itemAt s at) r
@@ -243,3 +247,40 @@ module _ (s : List ℕ) (at : ℕ) (vector : rcnmAt s at ≡ 100 → ⊥) where
             rw (ne-eqb (rcnmAt s at) 110 other, ne-eqb (rcnmAt s at) 120 another, vrpt-said s at, sg3d-said s at, deepless, l .are, two .two, two .good, two .sum) in
             vector-faultless comf (wordsIn work 0 m) shaped coordinates-good (rw (l .are) (two .there));
       }
+
+-- ---- pair_lying: the pair as it is lent, and no soundings
+pub pair-long : (s : List ℕ) (from : ℕ) → from + 8 ≤ length s → 8 ≤ length (take (from + 8 - from) (drop from s))
+pair-long s from room = rw (length-take, length-drop) (omega arith)
+
+one-entry : (s : List ℕ) (from : ℕ) → from + 8 ≤ length s → restOf 8 s from (from + 8) ≡ take (from + 8 - from) (drop from s) ∷ []
+one-entry s from room =
+    rest-more 8 s from (from + 8) room (omega arith) (omega arith)
+    ∙ ap (λ (es : List (List ℕ)). take (from + 8 - from) (drop from s) ∷ es) (rest-end 8 s (from + 8) (from + 8) room (omega arith))
+
+one-told : (comf : ℕ) (s : List ℕ) (from : ℕ) → from + 8 ≤ length s → pairGood comf (take (from + 8 - from) (drop from s)) ≡ true
+    → ListTold comf 8 s (span from (from + 8)) true
+unfolding allOf
+one-told comf s from room good = record {
+  order = λ (e : true ≡ true). omega arith;
+  is = λ (e : true ≡ true). rw (one-entry s from room, good);
+}
+
+none-told : (comf : ℕ) (s : List ℕ) → ListTold comf 12 s (span 0 0) true
+unfolding allOf
+none-told comf s = record { order = λ (e : true ≡ true). omega arith; is = λ (e : true ≡ true). rw (rest-end 12 s 0 0 (omega arith) (omega arith)) }
+
+pub told-pair : (comf : ℕ) (s : List ℕ) (at from : ℕ) (b : Bool) → NodeIn s at from → PairTold comf (take (from + 8 - from) (drop from s)) b
+    → WordlessTold comf (itemAt s at) (not b)
+told-pair comf s at from b node told = record {
+  is = λ (e : not b ≡ true) (ws : List ℕ).
+      let pair = node .pair in
+      let flat = one-told comf s from (pair .room) (told .is (clear b e)) in
+      let deep = none-told comf s in
+      node-faultless s at (node .vector) comf (span 0 0) (span from (from + 8)) (span 0 0) (pair .ends) (pair .pairs) (pair .soundings) true true flat refl deep refl ws refl
+      (node-paired-good s at (node .vector) comf (span 0 0) (span from (from + 8)) (span 0 0) (pair .ends) (pair .pairs) (pair .soundings) true true flat refl deep refl
+      (node .known) refl (node .node) (omega arith) refl);
+}
+  where
+    clear : (b : Bool) → not b ≡ true → b ≡ false
+    clear true e = never e
+    clear false e = refl

@@ -19,7 +19,7 @@ use Rattle.pointer.specs.Pointer.{namesCode, pointerCode}
 use Rattle.pointer.specs.Premises.{heldFoid}
 use Rattle.ring.specs.Ring.{ringCode}
 use Rattle.ring.specs.Walk.{nodeAt}
-use Rattle.spans.specs.Spans.{SpanOf, restOf}
+use Rattle.spans.specs.Spans.{SpanOf, LonePair, restOf}
 use Rattle.spans.specs.declared.Span.{Span}
 use Rattle.spans.specs.declared.Spans.{Spans}
 
@@ -42,6 +42,10 @@ pub record FaultlessVector (comf : ℕ) (ws : List ℕ) (i : Item) : Type 0 wher
 pub record VectorTold (comf : ℕ) (ws : List ℕ) (i : Item) (r : Bool) : Type 0 where
   pub is : r ≡ true → FaultlessVector comf ws i
 
+-- the same of one that names nothing, whatever the words
+pub record WordlessTold (comf : ℕ) (i : Item) (r : Bool) : Type 0 where
+  pub is : r ≡ true → (ws : List ℕ) → FaultlessVector comf ws i
+
 -- a vector whose identifier field starts at `id`, and whose three lists lie in these spans
 pub record VectorIn (s : List ℕ) (at id : ℕ) (sp : Spans) : Type 0 where
   pub known : Identified s at
@@ -50,6 +54,13 @@ pub record VectorIn (s : List ℕ) (at id : ℕ) (sp : Spans) : Type 0 where
   pub ends : SpanOf s at 1448235092 (sp .one)
   pub pairs : SpanOf s at 1397174852 (sp .two)
   pub soundings : SpanOf s at 1397175108 (sp .three)
+
+-- a node whose lists hold one pair, from `from` on
+pub record NodeIn (s : List ℕ) (at from : ℕ) : Type 0 where
+  pub known : Identified s at
+  pub vector : rcnmAt s at ≡ 100 → ⊥
+  pub node : rcnmAt s at ≡ 130 → ⊥
+  pub pair : LonePair s at from
 
 -- the words of m items in order, at the front of the work area
 pub record NamesIn (work : List ℕ) (m : ℕ) : Type 0 where

@@ -19,7 +19,7 @@ fn beyond(u: u32, limit: u32) -> bool
 }
 
 // Whether Y or X of a pair or a sounding is.
-fn pair_beyond(e: &[u8], comf: u32) -> bool
+pub fn pair_beyond(e: &[u8], comf: u32) -> bool
     requires { ⌜ (8 ≤ length (now e)) × (comf ≤ mostComf) ⌝ }
     ensures { λ r. ⌜ PairTold comf (now (e .entry)) r ⌝ }
 {

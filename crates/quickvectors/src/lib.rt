@@ -3,14 +3,14 @@
 // edge are looked up where they are guessed. It promises one way only: where it says yes, Shape,
 // Pointer and Ring find no fault; where it says no, the rules of `shape`, `pointer` and `ring` decide.
 ghost use Prim.Native.Nat.{_≤_};
-ghost use mathlib.Core.Path.{_≡_};
 ghost use lib.ListN.{length};
 ghost use Rattle.headvalues.specs.Dspm.{mostComf};
 ghost use Rattle.items.specs.Item.{itemAt};
 ghost use Rattle.spans.specs.Spans.{SpanIn};
 ghost use Rattle.words.specs.Words.{wordsIn};
-ghost use Rattle.quickvectors.specs.Quick.{NodeTold, PairedTold, HeldTold, EndsTold, EdgeTold, VectorIn, NamesIn, VectorTold};
+ghost use Rattle.quickvectors.specs.Quick.{NodeTold, PairedTold, HeldTold, EndsTold, EdgeTold, VectorIn, NamesIn, VectorTold, NodeIn, WordlessTold};
 use coordinates::list_within;
+use coordinates::pair_beyond;
 use lookups::lookup::Found;
 use lookups::lookup::index_near;
 use lookups::lookup::name_in;
@@ -135,4 +135,14 @@ pub fn vector_lying(
         return false;
     }
     edge_shaped(s, ends, work, m, start)
+}
+
+// The same of a node whose lists hold one pair, the bytes from `from` on: it is shaped as a node must be,
+// so that its coordinates decide.
+pub fn pair_lying(s: &[u8], at: usize, from: usize, comf: u32) -> bool
+    requires { ⌜ NodeIn (now s) at from × (comf ≤ mostComf) ⌝ }
+    ensures { λ r. ⌜ WordlessTold comf (itemAt (now (s .entry)) at) r ⌝ }
+{
+    let to = from + sizes::SG2D;
+    !pair_beyond(&s[from..to], comf)
 }

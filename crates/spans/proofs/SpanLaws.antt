@@ -6,7 +6,8 @@ use mathlib.Core.Logic.{⊎-elim}
 use mathlib.Core.Path.{_≡_, refl, sym, ap, _∙_}
 use native.Mathlib.Omega.{arith}
 use lib.ListN.{length, take, drop}
-use borrow.Author.Tests.{eq-eqb, ne-eqb}
+use lib.Dec.{eqb}
+use borrow.Author.Tests.{eq-eqb, ne-eqb, eqb-true}
 use Rattle.octets.specs.Number.{byteAt}
 use Rattle.octets.specs.Premises.{Reads}
 use Rattle.octets.proofs.Cases.{eq-or-ne}
@@ -26,7 +27,7 @@ use Rattle.items.proofs.IdentityLaws.{num-one}
 use Rattle.items.proofs.FrontLaws.{long-is, id-place, front-kind, front-id}
 use Rattle.items.proofs.ListsLaws.{part-yes, part-no, join-end, join-next, join-all, field-some, field-fits}
 use Rattle.items.proofs.CountLaws.{lent-is}
-use Rattle.spans.specs.Spans.{Tagged, Reached, FrontTold, span, spanWith, SpanTo, SpanOf}
+use Rattle.spans.specs.Spans.{Tagged, Reached, FrontTold, span, spanWith, SpanTo, SpanOf, LoneTold}
 use Rattle.spans.specs.declared.Span.{Span}
 use Rattle.spans.specs.declared.Front.the-variants.{Vector, Feature, Other}
 
@@ -231,3 +232,38 @@ module _ {s : List ℕ} {at i x : ℕ} {h : Head} (reached : Reached s at h i x)
 
   pub turn-span : {tag : ℕ} {sp : Span} (r : Span) → SpanTo s at tag j sp → r ≡ spanWith sp f tag → SpanTo s at tag (j + 1) r
   turn-span r so e = span-on so f (reached .laid) below read r e
+
+-- ---- lone_pair
+pub lone-no : (s : List ℕ) (at due : ℕ) → LoneTold s at due false
+lone-no s at due = record { is = λ (e : false ≡ true). never e }
+
+-- one turn, from the start to the end: f is field 2, the only one behind the identifier field
+module _ {s : List ℕ} {at due : ℕ} {h : Head} (reached : Reached s at h 2 due) (three : h .count ≡ 3) (f : Field) (read : f ≡ fieldAt s at 2) (pair : f .tag ≡ 1397174852) where
+  lone-count : 3 ≡ countAt s at
+  lone-count = let count = reached .head .count in omega arith
+
+  lone-start : f .start ≡ due
+  lone-start = ap (λ (x : Field). x .start) read ∙ sym (reached .next .is (let count = lone-count in omega arith))
+
+  lone-empty : (tag : ℕ) → (1397174852 ≡ tag → ⊥) → SpanOf s at tag (span 0 0)
+  lone-empty tag other =
+      let count = lone-count in
+      span-end (span-pass (span-start tag (span 0 0) reached refl) f (reached .laid) (omega arith) read (λ (e : f .tag ≡ tag). other (sym pair ∙ e))) 3 count (omega arith)
+
+  lone-full : f .length ≡ 9 → SpanOf s at 1397174852 (span due (due + 8))
+  lone-full nine =
+      let count = lone-count in
+      rw (lone-start, nine) at
+      (span-end (span-take (span-start 1397174852 (span 0 0) reached refl) f (reached .laid) (omega arith) read pair refl) 3 count (omega arith))
+
+  pub lone-told : LoneTold s at due (eqb (f .length) 9)
+  lone-told = record {
+    is = λ (e : eqb (f .length) 9 ≡ true).
+        let full = lone-full (eqb-true (f .length) 9 e) in
+        record {
+          room = full .inside .within (omega arith);
+          ends = lone-empty 1448235092 (λ (z : 1397174852 ≡ 1448235092). omega arith);
+          pairs = full;
+          soundings = lone-empty 1397175108 (λ (z : 1397174852 ≡ 1397175108). omega arith);
+        };
+  }

@@ -1,6 +1,6 @@
 -- Where the bytes of a list lie. It serves the proofs, and nothing here need be believed. Assumes nothing.
 use Prim.Native.Nat.{ℕ, _+_, _-_, _≤_}
-use mathlib.Core.Bool.{true, cond}
+use mathlib.Core.Bool.{Bool, true, cond}
 use mathlib.Core.List.{List, _++_}
 use mathlib.Core.Path.{_≡_}
 use lib.ListN.{length, take, drop}
@@ -59,6 +59,17 @@ pub record SpanTo (s : List ℕ) (at tag j : ℕ) (sp : Span) : Type 0 where
 pub record SpanOf (s : List ℕ) (at tag : ℕ) (sp : Span) : Type 0 where
   pub inside : SpanIn s sp
   pub is : (k : ℕ) → Tagged k tag → sp .from ≤ sp .to → listAt s at k ≡ take (sp .to - sp .from) (drop (sp .from) s)
+
+-- ---- one pair, the eight bytes from `from` on, is all that a vector's lists hold
+pub record LonePair (s : List ℕ) (at from : ℕ) : Type 0 where
+  pub room : from + 8 ≤ length s
+  pub ends : SpanOf s at 1448235092 (span 0 0)
+  pub pairs : SpanOf s at 1397174852 (span from (from + 8))
+  pub soundings : SpanOf s at 1397175108 (span 0 0)
+
+-- where r says yes, it is
+pub record LoneTold (s : List ℕ) (at from : ℕ) (r : Bool) : Type 0 where
+  pub is : r ≡ true → LonePair s at from
 
 -- ---- entries of n bytes, without a text, in the bytes from i up to `to`
 unfoldable pub restOf : ℕ → List ℕ → ℕ → ℕ → List (List ℕ)

@@ -1,14 +1,14 @@
 // Where the lists of an item's record lie in the file: one walk over its fields finds three or two of
-// them. It promises to the crates above: `front_of`, where the lists begin, and `spans_of` and
-// `two_spans_of`, from where to where the bytes of each list stand, if it stands in one field. It takes
-// fields from `iso8211` and records that are laid out from `items`. Lists in several fields are left to
-// the cursors of `items`.
+// them. It promises to the crates above: `front_of`, where the lists begin, `lone_pair`, whether one pair
+// is all there is, and `spans_of` and `two_spans_of`, from where to where the bytes of each list stand, if
+// it stands in one field. It takes fields from `iso8211` and records that are laid out from `items`. Lists
+// in several fields are left to the cursors of `items`.
 ghost use Prim.Native.Nat.{_+_, _≤_};
 ghost use mathlib.Core.Path.{_≡_};
 ghost use lib.ListN.{length};
 ghost use Rattle.iso8211.specs.Premises.{HeadOf};
 ghost use Rattle.items.specs.Premises.{LaidOut, Identified};
-ghost use Rattle.spans.specs.Spans.{span, spanWith, Reached, FrontTold, SpanOf};
+ghost use Rattle.spans.specs.Spans.{span, spanWith, Reached, FrontTold, LoneTold, SpanOf};
 use iso8211::field::Field;
 use iso8211::field::Head;
 use iso8211::field::field_on;
@@ -61,6 +61,22 @@ pub fn front_of(s: &[u8], at: usize, h: Head) -> Front
         return Front::Other;
     }
     Front::Vector(id, id + 9)
+}
+
+// Whether field 2, which is due at `due`, is the last, and an SG2D of one pair with its 1E, as in most
+// nodes: then there is nothing to walk over.
+pub fn lone_pair(s: &[u8], at: usize, h: Head, due: usize) -> bool
+    requires { ⌜ Reached (now s) at h 2 due ⌝ }
+    ensures { λ r. ⌜ LoneTold (now (s .entry)) at due r ⌝ }
+{
+    if h.count != 3 {
+        return false;
+    }
+    let f = field_on(s, at, h, 2, due);
+    if f.tag != tags::SG2D {
+        return false;
+    }
+    f.length == 9
 }
 
 // The span of the list with this tag behind field f, sp being the one before it.

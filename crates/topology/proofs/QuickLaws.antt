@@ -39,9 +39,6 @@ module _ (s : List ℕ) (at : ℕ) (h : Head) (f : Front) (told : FrontTold s at
     pub vector-id : id ≡ idAt s at
     vector-id = vector-front .0
 
-    pub vector-class : rcnmAt s at ≡ 100 → ⊥
-    vector-class = vector-front .1
-
     pub vector-reached : Reached s at h 2 due
     vector-reached = vector-front .2
 

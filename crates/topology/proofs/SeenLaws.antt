@@ -14,24 +14,20 @@ use Rattle.words.specs.Order.{Sorted}
 use Rattle.words.proofs.WordsLaws.{words-at, words-length}
 use Rattle.answers.specs.First.{firstBy}
 use Rattle.lookups.specs.LookupWords.{indexOf}
-use Rattle.items.specs.Identity.{rcnmAt, rankOf}
+use Rattle.items.specs.Identity.{idAt, rcnmAt, rankOf}
 use Rattle.items.specs.Word.{wordOffset}
 use Rattle.items.specs.Item.{Item, itemAt}
 use Rattle.items.specs.Premises.{LaidOut, Identified}
 use Rattle.names.specs.Premises.{Noted}
-use Rattle.iso8211.specs.declared.field.Head.{Head}
-use Rattle.spans.specs.Spans.{FrontTold, SpanOf}
-use Rattle.spans.specs.declared.Front.{Front}
-use Rattle.spans.specs.declared.Front.the-variants.{Vector}
+use Rattle.spans.specs.Spans.{LoneTold, SpanOf}
 use Rattle.spans.specs.declared.Spans.{Spans}
-use Rattle.quickvectors.specs.Quick.{Quick, FaultlessVector, VectorTold, VectorIn, NamesIn}
+use Rattle.quickvectors.specs.Quick.{Quick, FaultlessVector, VectorTold, WordlessTold, VectorIn, NodeIn, NamesIn}
 use Rattle.quickvectors.proofs.CoordinateLaws.{never}
-use Rattle.topology.proofs.QuickLaws.{vector-id, vector-class}
 use Rattle.topology.specs.Topology.{itemCode}
-use Rattle.topology.specs.Notes.{noteFor, notedCode, wordFault, Ranked, Prepared, SeenTold, ClearTo, ClearWith}
+use Rattle.topology.specs.Notes.{noteFor, notedCode, wordFault, Ranked, Prepared, SeenTold, AloneTold, ClearTo, ClearWith}
 use Rattle.topology.specs.declared.seen.Seen.{Seen}
 use Rattle.topology.proofs.BesideLaws.{beside-words}
-use Rattle.topology.proofs.NotesLaws.{Filed}
+use Rattle.topology.proofs.NotesLaws.{Filed, note-none}
 use Rattle.topology.proofs.TopologyLaws.{fault-start, fault-on}
 
 -- ---- one item
@@ -42,16 +38,48 @@ seen-note comf ws i r told none = record { note = told; clear = λ (e : r .clear
 pub seen-judged : (comf : ℕ) (ws : List ℕ) (i : Item) (r : Seen) → r .note ≡ noteFor i → VectorTold comf ws i (r .clear) → SeenTold comf ws i r
 seen-judged comf ws i r told faultless = record { note = told; clear = faultless .is }
 
--- the front of its record and its lists, f being what the front is told to be
-pub seen-vector : (s : List ℕ) (at rank : ℕ) (h : Head) (f : Front) (id due : ℕ) (sp : Spans) → Ranked s at rank → FrontTold s at h f → f ≡ Vector id due
+-- a vector is no feature
+vector-ranked : (s : List ℕ) (at rank : ℕ) → Ranked s at rank → (rank ≡ 3 → ⊥) → rcnmAt s at ≡ 100 → ⊥
+unfolding rankOf
+vector-ranked s at rank ranked feature is = feature (ranked .is ∙ ap rankOf is)
+
+-- its lists
+pub seen-vector : (s : List ℕ) (at rank id : ℕ) (sp : Spans) → Ranked s at rank → (rank ≡ 3 → ⊥) → id ≡ idAt s at
     → SpanOf s at 1448235092 (sp .one) → SpanOf s at 1397174852 (sp .two) → SpanOf s at 1397175108 (sp .three) → VectorIn s at id sp
-seen-vector s at rank h f id due sp ranked told is ends pairs soundings = record {
+seen-vector s at rank id sp ranked feature there ends pairs soundings = record {
   known = ranked .known;
-  there = vector-id s at h f told id due is;
-  vector = vector-class s at h f told id due is;
+  there = there;
+  vector = vector-ranked s at rank ranked feature;
   ends = ends;
   pairs = pairs;
   soundings = soundings;
+}
+
+-- a node of one pair
+pub alone-no : (s : List ℕ) (at rank due : ℕ) → AloneTold s at rank due false
+alone-no s at rank due = record { node = λ (e : false ≡ true). never e; is = λ (e : false ≡ true). never e }
+
+pub alone-told : (s : List ℕ) (at rank due : ℕ) (r : Bool) → Ranked s at rank → (rank ≡ 3 → ⊥) → (rank ≡ 2 → ⊥) → LoneTold s at due r → AloneTold s at rank due r
+unfolding rankOf
+alone-told s at rank due r ranked feature edge told = record {
+  node = λ (e : r ≡ true). edge;
+  is = λ (e : r ≡ true).
+      record {
+        known = ranked .known;
+        vector = vector-ranked s at rank ranked feature;
+        node = λ (is : rcnmAt s at ≡ 130). edge (ranked .is ∙ ap rankOf is);
+        pair = told .is e;
+      };
+}
+
+pub alone-node : (s : List ℕ) (at rank due : ℕ) (b : Bool) → AloneTold s at rank due b → b ≡ true → NodeIn s at due
+alone-node s at rank due b told e = told .is e
+
+pub seen-node : (comf : ℕ) (ws s : List ℕ) (at rank due : ℕ) (b : Bool) (r : Seen) → Ranked s at rank → (rank ≡ 3 → ⊥) → AloneTold s at rank due b → b ≡ true
+    → r .note ≡ 0 → WordlessTold comf (itemAt s at) (r .clear) → SeenTold comf ws (itemAt s at) r
+seen-node comf ws s at rank due b r ranked feature alone e none told = record {
+  note = none ∙ note-none ranked feature (alone .node e);
+  clear = λ (y : r .clear ≡ true). told .is y ws;
 }
 
 -- where no more is asked than whether it is clear: its class is read, and the words are those of the notes

@@ -23,7 +23,7 @@ use Rattle.answers.specs.Answer.{refusal, fine}
 use Rattle.answers.specs.declared.refusal.Refusal.{Refusal}
 use Rattle.names.specs.Premises.{AllStand, Noted}
 use Rattle.ring.specs.Walk.{endsWith, nodeAt}
-use Rattle.quickvectors.specs.Quick.{FaultlessVector}
+use Rattle.quickvectors.specs.Quick.{FaultlessVector, NodeIn}
 use Rattle.topology.specs.declared.seen.Seen.{Seen}
 
 -- of a feature its FOID, of an edge its ends
@@ -69,6 +69,11 @@ pub record Prepared (notes ws : List ℕ) (m : ℕ) (next : List ℕ) (v : ℕ) 
 pub record SeenTold (comf : ℕ) (ws : List ℕ) (i : Item) (r : Seen) : Type 0 where
   pub note : r .note ≡ noteFor i
   pub clear : r .clear ≡ true → FaultlessVector comf ws i
+
+-- where r says yes, a vector of this rank is a node, and its lists hold one pair, from `due` on
+pub record AloneTold (s : List ℕ) (at rank due : ℕ) (r : Bool) : Type 0 where
+  pub node : r ≡ true → rank ≡ 2 → ⊥
+  pub is : r ≡ true → NodeIn s at due
 
 -- the first k have no code
 pub record ClearTo (comf : ℕ) (s ws : List ℕ) (k : ℕ) : Type 0 where

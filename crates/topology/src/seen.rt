@@ -1,10 +1,12 @@
-// What is seen of an item on the way to its note: a vector's lists are found by one walk, by which it is
-// judged at once. All names are known by then; FOIDs and the ends of other edges are nothing to a vector.
+// What is seen of an item on the way to its note: a vector's lists are found by one walk, or without one
+// where a node has one pair, and it is judged at once. All names are known by then; FOIDs and the ends of
+// other edges are nothing to a vector.
 ghost use Prim.Native.Nat.{_≤_, _<_};
 ghost use mathlib.Core.Path.{_≡_};
 ghost use Rattle.headvalues.specs.Dspm.{mostComf};
 ghost use Rattle.words.specs.Words.{wordsIn};
 ghost use Rattle.table.specs.Table.{VRPT};
+ghost use Rattle.items.specs.Identity.{idAt};
 ghost use Rattle.items.specs.Item.{itemAt};
 ghost use Rattle.items.specs.Lists.{entriesAt};
 ghost use Rattle.items.specs.Premises.{LaidOut};
@@ -12,19 +14,21 @@ ghost use Rattle.items.specs.Word.{wordOffset};
 ghost use Rattle.names.specs.Premises.{Stands};
 ghost use Rattle.iso8211.specs.Premises.{HeadOf};
 ghost use Rattle.ring.specs.Walk.{endsWith};
-ghost use Rattle.spans.specs.Spans.{SpanOf};
+ghost use Rattle.spans.specs.Spans.{Reached, SpanOf};
 ghost use Rattle.quickvectors.specs.Quick.{NamesIn};
-ghost use Rattle.topology.specs.Notes.{noteFor, Ranked, SeenTold, ClearWith};
+ghost use Rattle.topology.specs.Notes.{noteFor, Ranked, AloneTold, SeenTold, ClearWith};
 use crate::note::note_at;
 use iso8211::field::Head;
 use iso8211::field::head_of;
 use items::word;
+use quickvectors::pair_lying;
 use quickvectors::vector_lying;
 use ring::ends::ends_between;
 use ring::ends::ends_of;
 use spans::Front;
 use spans::Span;
 use spans::front_of;
+use spans::lone_pair;
 use spans::spans_of;
 use table::sizes;
 use table::tags;
@@ -64,7 +68,43 @@ fn vector_note(s: &[u8], at: usize, h: Head, rank: u64, ends: Span) -> u64
     ends_lying(s, at, h, ends)
 }
 
-// A vector. `nodes` is where the words of connected nodes may begin.
+// Whether the vector at `at` is a node whose lists hold one pair, and field 2, which is due at `due`, is it.
+fn node_alone(s: &[u8], at: usize, h: Head, rank: u64, due: usize) -> bool
+    requires { ⌜ Ranked (now s) at rank × (rank ≡ 3 → ⊥) × Reached (now s) at h 2 due ⌝ }
+    ensures { λ r. ⌜ AloneTold (now (s .entry)) at rank due r ⌝ }
+{
+    if rank == 2 {
+        return false;
+    }
+    lone_pair(s, at, h, due)
+}
+
+// A vector whose lists are found by a walk: its identifier field starts at `id`, and field 2 is due at
+// `due`.
+fn lists_seen(
+    s: &[u8],
+    at: usize,
+    h: Head,
+    rank: u64,
+    id: usize,
+    due: usize,
+    comf: u32,
+    work: &[u8],
+    m: usize,
+    nodes: usize,
+) -> Seen
+    requires { ⌜ Ranked (now s) at rank × (rank ≡ 3 → ⊥) × (id ≡ idAt (now s) at) × Reached (now s) at h 2 due × NamesIn (now work) m × (comf ≤ mostComf) ⌝ }
+    ensures { λ r. ⌜ SeenTold comf (wordsIn (now (work .entry)) 0 m) (itemAt (now (s .entry)) at) r ⌝ }
+{
+    let sp = spans_of(s, at, h, 2, due, tags::VRPT, tags::SG2D, tags::SG3D);
+    Seen {
+        note: vector_note(s, at, h, rank, sp.one),
+        clear: vector_lying(s, at, id, sp, comf, work, m, nodes),
+    }
+}
+
+// A vector. `nodes` is where the words of connected nodes may begin. Most are nodes of one pair, whose
+// lists need no finding.
 fn vector_seen(
     s: &[u8],
     at: usize,
@@ -84,11 +124,13 @@ fn vector_seen(
             clear: false,
         };
     };
-    let sp = spans_of(s, at, h, 2, due, tags::VRPT, tags::SG2D, tags::SG3D);
-    Seen {
-        note: vector_note(s, at, h, rank, sp.one),
-        clear: vector_lying(s, at, id, sp, comf, work, m, nodes),
+    if node_alone(s, at, h, rank, due) {
+        return Seen {
+            note: 0,
+            clear: pair_lying(s, at, due, comf),
+        };
     }
+    lists_seen(s, at, h, rank, id, due, comf, work, m, nodes)
 }
 
 // The item at `at`, whose class has this rank. Features are judged when all notes stand.

@@ -1,6 +1,6 @@
--- Its lists by one walk over its fields, its note and its verdict by them.
-use Rattle.topology.proofs.QuickLaws.{vector-reached}
-use Rattle.topology.proofs.SeenLaws.{seen-note, seen-judged, seen-vector}
+-- A node of one pair by that pair; else its lists by one walk.
+use Rattle.topology.proofs.QuickLaws.{vector-id, vector-reached}
+use Rattle.topology.proofs.SeenLaws.{seen-note, alone-node, seen-node}
 use borrow.Author.Needs.{needs}
 use Rattle.topology.proofs.seen.vector_seen.Statement.{statement}
 use Rattle.topology.proofs.seen.vector_seen.Tie as tie
@@ -20,17 +20,21 @@ note-at-requires c κs = search needs
 returns : tie.Need-returns
 returns c = search (needs, seen-note)
 
-spans-of-requires : tie.Need-spans-of-requires
-spans-of-requires c κs = search (needs, vector-reached)
+node-alone-requires : tie.Need-node-alone-requires
+node-alone-requires c κs = (search needs, search needs, search (needs, vector-reached))
 
-vector-note-requires : tie.Need-vector-note-requires
-vector-note-requires c κs = search needs
-
-vector-lying-requires : tie.Need-vector-lying-requires
-vector-lying-requires c κs = (search (needs, seen-vector), search needs, search needs)
+pair-lying-requires : tie.Need-pair-lying-requires
+pair-lying-requires c κs = (search (needs, alone-node), search needs)
 
 returns-2 : tie.Need-returns-2
-returns-2 c = search (needs, seen-judged)
+returns-2 c = search (needs, seen-node)
+
+lists-seen-requires : tie.Need-lists-seen-requires
+lists-seen-requires c κs =
+    (search needs, search needs, search (needs, vector-id), search (needs, vector-reached), search needs, search needs)
+
+returns-3 : tie.Need-returns-3
+returns-3 c = search needs
 
 pub vector-seen-spec : {M : Type 1} → statement M
 vector-seen-spec =
@@ -41,7 +45,8 @@ vector-seen-spec =
     enum-known-id
     note-at-requires
     returns
-    spans-of-requires
-    vector-note-requires
-    vector-lying-requires
-    returns-2)
+    node-alone-requires
+    pair-lying-requires
+    returns-2
+    lists-seen-requires
+    returns-3)
