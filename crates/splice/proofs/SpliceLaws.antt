@@ -15,7 +15,7 @@ use Rattle.entries.specs.declared.Extent.{Extent}
 use Rattle.entries.specs.Entries.{entriesOf, extentOf}
 use Rattle.entries.specs.Premises.{Whole, place}
 use Rattle.entries.proofs.EntriesLaws.{flatten-append}
-use Rattle.entries.proofs.PlaceLaws.{place-front}
+use Rattle.entries.proofs.PlaceLaws.{place-front, place-back, place-within}
 use Rattle.edits.specs.Control.{gone, Allowed, edited, editedBy}
 use Rattle.edits.specs.Lists.{listAllowed, listEdited}
 use Rattle.edits.proofs.ControlLaws.{allowed-numbers}
@@ -43,6 +43,22 @@ places-rise sh held k g from to f t =
     let more : flatten (take (k + g) es) ≡ flatten (take k es) ++ flatten (take g (drop k es)) =
     ap flatten (take-add k g es) ∙ flatten-append (take k es) (take g (drop k es)) in
     omega (arith, f, t, ap length more, length-append (flatten (take k es)) (flatten (take g (drop k es))))
+
+-- g entries on from entry k, which starts at `from`, r bytes on
+module _ (sh : Shape) (held : List ℕ) (k g from r : ℕ) (f : from ≡ place sh k held) (e : r ≡ place sh g (take (length held - from) (drop from held))) where
+  pub place-on : from + r ≡ place sh (k + g) held
+  unfolding place
+  place-on =
+      let es = entriesOf sh held in
+      let back : entriesOf sh (drop from held) ≡ drop k es = ap (λ (n : ℕ). entriesOf sh (drop n held)) f ∙ place-back sh k held in
+      let rest : r ≡ length (flatten (take g (drop k es))) =
+      e ∙ ap (λ (l : List ℕ). length (flatten (take g (entriesOf sh l)))) (whole-part from held) ∙ ap (λ (l : List (List ℕ)). length (flatten (take g l))) back in
+      let more : flatten (take (k + g) es) ≡ flatten (take k es) ++ flatten (take g (drop k es)) =
+      ap flatten (take-add k g es) ∙ flatten-append (take k es) (take g (drop k es)) in
+      omega (arith, f, rest, ap length more, length-append (flatten (take k es)) (flatten (take g (drop k es))))
+
+  pub place-on-within : from + r ≤ length held
+  place-on-within = let all = place-within sh (k + g) held in omega (arith, place-on)
 
 -- what stands from a place on is the entries from it on
 place-rest : (sh : Shape) (k : ℕ) (bs : List ℕ) → Whole sh bs → flatten (drop k (entriesOf sh bs)) ≡ drop (place sh k bs) bs

@@ -5,6 +5,7 @@ ghost use mathlib.Core.List.{_++_, flatten};
 ghost use lib.ListN.{length, take, drop};
 ghost use Rattle.octets.specs.Area.{Wrote};
 ghost use Rattle.entries.specs.Entries.{entriesOf};
+ghost use Rattle.entries.specs.Premises.{Sound, place};
 ghost use Rattle.edits.specs.Control.{editedBy, Allowed};
 ghost use Rattle.edits.specs.Lists.{listAllowed, listEdited};
 ghost use Rattle.splice.specs.Given.{numbersOf, optionOf, Given};
@@ -42,6 +43,15 @@ fn put_parts(
     copy_part(held, to, held.len(), out, b)
 }
 
+// Where entry k + g starts, entry k starting at `from`: g entries on from there.
+fn place_behind(held: &[u8], sh: Shape, from: usize, k: usize, g: usize) -> usize
+    requires { ⌜ Sound sh × (from ≡ place sh k (now held)) × (from ≤ length (now held)) ⌝ }
+    ensures { λ r. ⌜ (r ≡ place sh (k + g) (now (held .entry))) × (r ≤ length (now (held .entry))) ⌝ }
+{
+    let n = held.len();
+    from + place_of(&held[from..n], sh, g)
+}
+
 // The list edited by a control that may act on it.
 fn put_edited(
     held: &[u8],
@@ -57,9 +67,8 @@ fn put_edited(
         (now (out .exit)) r ⌝ }
 {
     let first = c.index - 1;
-    let next = first + gone_of(c);
     let from = place_of(held, sh, first);
-    let to = place_of(held, sh, next);
+    let to = place_behind(held, sh, from, first, gone_of(c));
     put_parts(held, brought, from, to, out, at)
 }
 

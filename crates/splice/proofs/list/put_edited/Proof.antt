@@ -13,5 +13,5 @@ returns c = search (needs, edited-put)
 pub put-edited-spec : {M : Type 1} → statement M
 put-edited-spec =
     tie.close
-    (tie.spec (λ c. search needs) (λ c κs. search needs) (λ c. search needs) (λ c κs. search needs) (λ c κs. search needs) put-parts-requires
+    (tie.spec (λ c. search needs) (λ c κs. search needs) (λ c κs. search needs) (λ c κs. search needs) put-parts-requires
     (λ c. search needs) returns)
