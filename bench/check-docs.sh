@@ -1,7 +1,6 @@
 #!/bin/sh
 # Whether what README.md and docs/ name is there: files, crates, law files, must-fail edits, and the identifiers of
-# docs/PROMISES.md and docs/READING.md; whether docs/READING.md has the files' true line counts; and whether each crate stands
-# in docs/MAP.md and has a head that names only crates from which it takes something.
+# docs/PROMISES.md and docs/READING.md; and whether docs/READING.md has the files' true line counts.
 # Ends with the line 'N passed, M failed'. Wants nothing beyond a shell and GNU's usual tools.
 # shellcheck disable=SC2016
 set -u
@@ -69,26 +68,6 @@ find crates host bench -type f ! -name '*.md' -exec cat {} + | tr -c 'A-Za-z0-9_
     quoted docs/PROMISES.md docs/READING.md | grep -v '/' | tr -c 'A-Za-z0-9_-' '\n' | grep -E '^[A-Za-z].*([a-z][A-Z]|[A-Za-z0-9]_[A-Za-z0-9]|[a-z0-9]-[a-z0-9])'
 } | sed 's|-$||' | sort -u >"$dir/spans"
 all_in 'not in the code' "$dir/spans" "$dir/words"
-
-# ---- docs/MAP.md has a row for each crate
-sed -n 's|^\([a-z0-9]*\):.*|\1|p' crates.txt | sort -u >"$dir/ours"
-grep '^| crates/' docs/MAP.md | cut -d'|' -f2 | grep -oE 'crates/[a-z0-9]+' | sed 's|crates/||' | sort -u >"$dir/mapped"
-all_in 'not in docs/MAP.md' "$dir/ours" "$dir/mapped"
-
-# ---- heads: the head of a crate is the comment with which src/lib.rt begins, of a program src/main.rt; each crate has one. A crate that a head names, by
-# its name alone in backticks, is one that the crate takes something from. What it takes is said by the `use` and `ghost use` lines of its src/*.rt (a `pub use`
-# shows what is its own); where no file there has a function, by the `use` lines of its specs/ and proofs/. So crates above it are spoken of without a name.
-awk 'FNR == 1 { head = 1; split(FILENAME, part, "/") } !/^\/\// { head = 0 }
-    head { n = split($0, word, "`"); print part[2], ""; for (i = 2; i < n; i += 2) print part[2], word[i] }' crates/*/src/lib.rt crates/*/src/main.rt >"$dir/heads"
-cut -d' ' -f1 "$dir/heads" | sort -u >"$dir/headed"
-all_in 'no head' "$dir/ours" "$dir/headed"
-awk 'NR == FNR { crate[$1]; next } $2 in crate && $1 != $2 { print $1 " takes from " $2 }' "$dir/ours" "$dir/heads" | sort -u >"$dir/said"
-grep -lE '^ *(pub )?(extern "C" )?fn ' crates/*/src/*.rt | cut -d/ -f2 | sort -u >"$dir/coded"
-{
-    grep -HE '^ *(ghost )?use ' crates/*/src/*.rt
-    comm -23 "$dir/ours" "$dir/coded" | while read -r crate; do grep -rH --include='*.antt' '^use ' "crates/$crate"; done
-} | sed -E -e 's,^crates/([a-z0-9]+)/[^:]*: *(ghost )?use (Rattle·)?([a-z0-9]+).*,\1 takes from \4,' | sort -u >"$dir/taken"
-all_in 'the head says so, and no use line does' "$dir/said" "$dir/taken"
 
 # ---- the line counts of docs/READING.md
 grep -E '^\| crates/[^ ]*\.(antt|rt) \| [0-9]+ \|' docs/READING.md | awk -F'|' '{ gsub(/ /, "", $2); gsub(/ /, "", $3); print $2 " has " $3 " lines" }' | sort -u >"$dir/counts"

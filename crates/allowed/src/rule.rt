@@ -9,7 +9,7 @@ ghost use Rattle.edits.specs.Lists.{allowed_at, lists_allowed};
 ghost use Rattle.lying.specs.Lying.{Lain};
 ghost use Rattle.changes.specs.Amend.{kinds_of};
 ghost use Rattle.changes.specs.Change.{amendment_at, edit_of};
-ghost use Rattle.amend.specs.Sides.{Sides, AmendAreas};
+ghost use Rattle.amend.specs.Sides.{Sides, Areas};
 ghost use Rattle.amend.specs.Pairs.{Paired, PlanFor};
 ghost use Rattle.allowed.specs.Brought.{AddsTold};
 
@@ -48,9 +48,9 @@ fn kind_allowed(
 ) -> bool
     requires { Sides cell.now at update.now by × HeadOf cell.now at hc × Lain cell.now at lc.now × HeadOf update.now by hu
         × Lain update.now by lu.now × PlanFor cell.now at update.now by plan × ((row_of k).list ≡ true)
-        × AmendAreas join.old table.old × (199999 ≤ length room.old) }
+        × Areas join.old table.old × (199999 ≤ length room.old) }
     ensures { (result ≡ allowed_at (edit_of (amendment_at update.now by)) (item_at cell.now at).lists k)
-        × AmendAreas join.new table.new }
+        × Areas join.new table.new }
 {
     if adds_alone(update, by, hu, k) {
         return true;
@@ -76,9 +76,9 @@ fn four_allowed(
     room: &mut [u8],
 ) -> bool
     requires { Sides cell.now at update.now by × HeadOf cell.now at hc × Lain cell.now at lc.now × HeadOf update.now by hu
-        × Lain update.now by lu.now × PlanFor cell.now at update.now by plan × AmendAreas join.old table.old × (199999 ≤ length room.old) }
+        × Lain update.now by lu.now × PlanFor cell.now at update.now by plan × Areas join.old table.old × (199999 ≤ length room.old) }
     ensures { (result ≡ lists_allowed plan.kinds (edit_of (amendment_at update.now by)) (item_at cell.now at).lists)
-        × AmendAreas join.new table.new }
+        × Areas join.new table.new }
 {
     let kinds = plan.kinds;
     let mut i: usize = 0;
@@ -110,9 +110,9 @@ fn lying_allowed(
     room: &mut [u8],
 ) -> bool
     requires { Paired cell.now at update.now by × HeadOf cell.now at hc × Lain cell.now at lc.now × HeadOf update.now by hu
-        × Lain update.now by lu.now × AmendAreas join.old table.old × (199999 ≤ length room.old) }
+        × Lain update.now by lu.now × Areas join.old table.old × (199999 ≤ length room.old) }
     ensures { (result ≡ lists_allowed (kinds_of (rcnm_at cell.now at)) (edit_of (amendment_at update.now by)) (item_at cell.now at).lists)
-        × AmendAreas join.new table.new }
+        × Areas join.new table.new }
 {
     let plan = plan_of(cell, at, hc, lc, update, by, hu, lu, join);
     four_allowed(
@@ -132,10 +132,10 @@ fn headed_allowed(
     table: &mut [u32],
     room: &mut [u8],
 ) -> bool
-    requires { Paired cell.now at update.now by × HeadOf cell.now at hc × HeadOf update.now by hu × AmendAreas join.old table.old
+    requires { Paired cell.now at update.now by × HeadOf cell.now at hc × HeadOf update.now by hu × Areas join.old table.old
         × (199999 ≤ length room.old) }
     ensures { (result ≡ lists_allowed (kinds_of (rcnm_at cell.now at)) (edit_of (amendment_at update.now by)) (item_at cell.now at).lists)
-        × AmendAreas join.new table.new }
+        × Areas join.new table.new }
 {
     let mut lc = [0usize; PLACES];
     lie(cell, at, hc, &mut lc);
@@ -155,9 +155,9 @@ pub fn lists_allowed(
     table: &mut [u32],
     room: &mut [u8],
 ) -> bool
-    requires { Paired cell.now at update.now by × AmendAreas join.old table.old × (199999 ≤ length room.old) }
+    requires { Paired cell.now at update.now by × Areas join.old table.old × (199999 ≤ length room.old) }
     ensures { (result ≡ lists_allowed (kinds_of (rcnm_at cell.now at)) (edit_of (amendment_at update.now by)) (item_at cell.now at).lists)
-        × AmendAreas join.new table.new }
+        × Areas join.new table.new }
 {
     let hc = head_of(cell, at);
     let hu = head_of(update, by);

@@ -34,7 +34,7 @@ use Rattle.splice.specs.Put.{Two, ListPut}
 use Rattle.labelled.specs.Table.{Labelled, Blank}
 use Rattle.changes.specs.Change.{amendment_at, edit_of}
 use Rattle.amend.specs.declared.lists.Split.{Split}
-use Rattle.amend.specs.Sides.{Sides, list_bytes, Picked, AmendAreas, SideBySide, area_front, back_of, may_put, put_of, Ready, StaysTold}
+use Rattle.amend.specs.Sides.{Sides, list_bytes, Picked, Areas, SideBySide, front_of, back_of, may_put, put_of, Ready, StaysTold}
 
 -- the same list, whatever its verdict and its bytes are called
 pub put_as : {may : Bool} {bytes area next : List ℕ} {at r : ℕ} (might : Bool) (same : List ℕ) → ListPut may bytes area at next r → might ≡ may → (might ≡ true → same ≡ bytes)
@@ -85,7 +85,7 @@ list_entries s at k list = rw list
 
 -- ---- the two lists of a record of the cell and of one of the update
 module _ {cell : List ℕ} {at : ℕ} {update : List ℕ} {by : ℕ} (sides : Sides cell at update by) where
-  pub sides_room : {join table : List ℕ} (k : ℕ) → AmendAreas join table → length (list_at cell at k) + length (list_at update by k) ≤ length join
+  pub sides_room : {join table : List ℕ} (k : ℕ) → Areas join table → length (list_at cell at k) + length (list_at update by k) ≤ length join
   sides_room k areas = let w = areas.wide in omega (arith, sides.old_few k, sides.new_few k)
 
   -- attributes in one pass
@@ -154,20 +154,20 @@ module _ {cell : List ℕ} {at : ℕ} {update : List ℕ} {by : ℕ} (sides : Si
         (true_or_false (is_attributes k))
 
     module _ {join : List ℕ} {s : Split} (side : SideBySide (list_at cell at k) (list_at update by k) join s) where
-      pub joined_ready : Ready k c (area_front join s) (back_of join s)
+      pub joined_ready : Ready k c (front_of join s) (back_of join s)
       joined_ready = rw (side.first, side.second) lists_ready
 
       pub joined_room : (place room : ℕ) → place + (length (list_at cell at k) + length (list_at update by k)) ≤ room
-          → place + (length (area_front join s) + length (back_of join s)) ≤ room
+          → place + (length (front_of join s) + length (back_of join s)) ≤ room
       joined_room place room h = rw (side.first, side.second) h
 
       pub joined_put : {a d : List ℕ} {place r : ℕ}
-          → ListPut (may_put k (option_of c) (entries_of (shape_of k) (area_front join s)) (entries_of (shape_of k) (back_of join s)))
-          (flatten (put_of k (option_of c) (entries_of (shape_of k) (area_front join s)) (entries_of (shape_of k) (back_of join s)))) a place d r
+          → ListPut (may_put k (option_of c) (entries_of (shape_of k) (front_of join s)) (entries_of (shape_of k) (back_of join s)))
+          (flatten (put_of k (option_of c) (entries_of (shape_of k) (front_of join s)) (entries_of (shape_of k) (back_of join s)))) a place d r
           → ListPut (allowed_at (edit_of (amendment_at update by)) (item_at cell at).lists k) (list_bytes cell at update by k) a place d r
       unfolding entries_at
       joined_put p =
-          let first : entries_of (shape_of k) (area_front join s) ≡ list_of cell at k = ap (entries_of (shape_of k)) side.first ∙ sym (list_entries cell at k pick.list) in
+          let first : entries_of (shape_of k) (front_of join s) ≡ list_of cell at k = ap (entries_of (shape_of k)) side.first ∙ sym (list_entries cell at k pick.list) in
           let second : entries_of (shape_of k) (back_of join s) ≡ list_of update by k = ap (entries_of (shape_of k)) side.second ∙ sym (list_entries update by k pick.list) in
           put_as _ _ (rw (first, second) at p) allowed_is (λ may. ap flatten (edited_is may))
 
@@ -227,5 +227,5 @@ module _ {cell : List ℕ} {at : ℕ} {update : List ℕ} {by : ℕ} (sides : Si
     size = wrote_length w;
   }
 
-pub sides_areas : {was join before table : List ℕ} → AmendAreas was before → length join ≡ length was → Blank table → AmendAreas join table
+pub sides_areas : {was join before table : List ℕ} → Areas was before → length join ≡ length was → Blank table → Areas join table
 sides_areas areas size zero = record { wide = rw size areas.wide; zero = zero }

@@ -30,7 +30,7 @@ use Rattle.splice.proofs.PutLaws.{put_refused, put_allowed}
 use Rattle.changes.specs.Amend.{kinds_of}
 use Rattle.changes.specs.Change.{control_at, amendment_at}
 use Rattle.amend.specs.Controls.{coordinates_by, chosen}
-use Rattle.amend.specs.Sides.{Sides, Picked, AmendAreas}
+use Rattle.amend.specs.Sides.{Sides, Picked, Areas}
 use Rattle.amend.specs.declared.control.Controls.{Controls}
 use Rattle.amend.specs.declared.plan.Plan.{Plan}
 use Rattle.amend.specs.Pairs.{Paired, BothRead, FourLists, PlanFor}
@@ -146,10 +146,10 @@ kind_room k room sides h = omega (arith, sides.old_few k, sides.new_few k)
 pub class_same : {cell : List ℕ} {at : ℕ} {update : List ℕ} {by : ℕ} (rcnm : ℕ) → Paired cell at update by → rcnm ≡ rcnm_at cell at → rcnm ≡ rcnm_at update by
 class_same rcnm paired read = read ∙ sym paired.same
 
-pub areas_five : {join table : List ℕ} → AmendAreas join table → 5 ≤ length join
+pub areas_five : {join table : List ℕ} → Areas join table → 5 ≤ length join
 areas_five areas = let w = areas.wide in omega arith
 
-pub areas_kept : {join table next : List ℕ} → AmendAreas join table → length next ≡ length join → AmendAreas next table
+pub areas_kept : {join table next : List ℕ} → Areas join table → length next ≡ length join → Areas next table
 areas_kept areas size = record { wide = rw size areas.wide; zero = areas.zero }
 
 pub planned_for : {cell : List ℕ} {at : ℕ} {update : List ℕ} {by : ℕ} {kinds : List ℕ} (rcnm means : ℕ) (c : Controls) → rcnm ≡ rcnm_at cell at

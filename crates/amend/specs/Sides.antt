@@ -40,7 +40,7 @@ pub record Picked (cell : List ℕ) (at : ℕ) (update : List ℕ) (by k : ℕ) 
   pub is : option_of c ≡ control_of (edit_of (amendment_at update by)) (item_at cell at).lists k
 
 -- the area where two lists stand side by side, and the table of labels, which is zero
-pub record AmendAreas (join : List ℕ) (table : List ℕ) : Type 0 where
+pub record Areas (join : List ℕ) (table : List ℕ) : Type 0 where
   pub wide : 199998 ≤ length join
   pub zero : Blank table
 
@@ -50,15 +50,15 @@ pub record Totaled (bytes : ℕ → List ℕ) (kinds totals : List ℕ) : Type 0
   pub four : length totals ≡ 4
 
 -- of two lists of bytes side by side at the front of an area: what stands first, what behind it
-abbrev pub area_front : List ℕ → Split → List ℕ
-area_front area s = take (s.held - 0) (drop 0 area)
+abbrev pub front_of : List ℕ → Split → List ℕ
+front_of area s = take (s.held - 0) (drop 0 area)
 
 abbrev pub back_of : List ℕ → Split → List ℕ
 back_of area s = take (s.all - s.held) (drop s.held area)
 
 -- two lists of bytes at the front of an area, one behind the other
 pub record SideBySide (old new area : List ℕ) (s : Split) : Type 0 where
-  pub first : area_front area s ≡ old
+  pub first : front_of area s ≡ old
   pub second : back_of area s ≡ new
   pub order : s.held ≤ s.all
   pub within : s.all ≤ length area

@@ -15,7 +15,7 @@ ghost use Rattle.splice.specs.Given.{option_of};
 ghost use Rattle.splice.specs.Put.{ListPut};
 ghost use Rattle.labelled.specs.Table.{Blank};
 ghost use Rattle.changes.specs.Change.{amendment_at, edit_of};
-ghost use Rattle.amend.specs.Sides.{Sides, list_bytes, Picked, AmendAreas, SideBySide, area_front, back_of, may_put, put_of, Ready, StaysTold};
+ghost use Rattle.amend.specs.Sides.{Sides, list_bytes, Picked, Areas, SideBySide, front_of, back_of, may_put, put_of, Ready, StaysTold};
 ghost use Rattle.amend.specs.Pairs.{PlanFor};
 ghost use Rattle.items.specs.Premises.{LaidOut};
 
@@ -82,10 +82,10 @@ fn put_joined(
     room: &mut [u8],
     place: usize,
 ) -> usize
-    requires { Ready k c (area_front join.now s) (back_of join.now s) × Blank table.old × (s.held ≤ s.all) × (s.all ≤ length join.now)
-        × (place + (length (area_front join.now s) + length (back_of join.now s)) ≤ length room.old) }
-    ensures { ListPut (may_put k (option_of c) (entries_of (shape_of k) (area_front join.now s)) (entries_of (shape_of k) (back_of join.now s)))
-        (flatten (put_of k (option_of c) (entries_of (shape_of k) (area_front join.now s)) (entries_of (shape_of k) (back_of join.now s))))
+    requires { Ready k c (front_of join.now s) (back_of join.now s) × Blank table.old × (s.held ≤ s.all) × (s.all ≤ length join.now)
+        × (place + (length (front_of join.now s) + length (back_of join.now s)) ≤ length room.old) }
+    ensures { ListPut (may_put k (option_of c) (entries_of (shape_of k) (front_of join.now s)) (entries_of (shape_of k) (back_of join.now s)))
+        (flatten (put_of k (option_of c) (entries_of (shape_of k) (front_of join.now s)) (entries_of (shape_of k) (back_of join.now s))))
         room.old place room.new result × Blank table.new }
 {
     let from: usize = 0;
@@ -130,10 +130,10 @@ fn put_edited(
 ) -> usize
     requires { Sides cell.now at update.now by × HeadOf cell.now at hc × Lain cell.now at lc.now × HeadOf update.now by hu
         × Lain update.now by lu.now × Picked cell.now at update.now by k c
-        × AmendAreas join.old table.old × (place + (length (list_at cell.now at k) + length (list_at update.now by k)) ≤ length room.old) }
+        × Areas join.old table.old × (place + (length (list_at cell.now at k) + length (list_at update.now by k)) ≤ length room.old) }
     ensures { ListPut (allowed_at (edit_of (amendment_at update.now by)) (item_at cell.now at).lists k)
         (list_bytes cell.now at update.now by k) room.old place room.new result
-        × AmendAreas join.new table.new }
+        × Areas join.new table.new }
 {
     if stays(update, by, hu, lu, k, c) {
         return put_lying(cell, at, hc, lc, k, room, place);
@@ -160,11 +160,11 @@ pub fn put_kind(
     place: usize,
 ) -> usize
     requires { Sides cell.now at update.now by × HeadOf cell.now at hc × Lain cell.now at lc.now × HeadOf update.now by hu
-        × Lain update.now by lu.now × PlanFor cell.now at update.now by plan × ((row_of k).list ≡ true) × AmendAreas join.old table.old
+        × Lain update.now by lu.now × PlanFor cell.now at update.now by plan × ((row_of k).list ≡ true) × Areas join.old table.old
         × (place + (length (list_at cell.now at k) + length (list_at update.now by k)) ≤ length room.old) }
     ensures { ListPut (allowed_at (edit_of (amendment_at update.now by)) (item_at cell.now at).lists k)
         (list_bytes cell.now at update.now by k) room.old place room.new result
-        × AmendAreas join.new table.new }
+        × Areas join.new table.new }
 {
     let first = plan.first;
     let second = plan.second;

@@ -18,7 +18,7 @@ use Rattle.names.proofs.HeldLaws.{stand_first, stand_rest, stand_name}
 use Rattle.lookups.proofs.LookupLaws.{lookup_told}
 use Rattle.items.specs.Item.{Item, item_at, item_name}
 use Rattle.changes.specs.Change.{amendment_at}
-use Rattle.changes.specs.Amend.{held_by, target_code, amendment_code}
+use Rattle.changes.specs.Amend.{held_by, found_code, amendment_code}
 use Rattle.amend.specs.Pairs.{Paired}
 use Rattle.amendments.specs.Amendable.{object_found, Amendable}
 
@@ -37,16 +37,16 @@ held_found s (w ∷ ws) name all =
 -- ---- the record of the update at `by`: r is what the look-up of its name answered
 module _ (cell ws update : List ℕ) (by : ℕ) (known : Amendable cell ws update by) (name : ℕ) (named : name ≡ name_at update by)
     (r : Found) (is : r ≡ lookup ws name) where
-  code_is : amendment_code (items_at cell ws) (amendment_at update by) ≡ target_code (amendment_at update by) (object_found cell r)
+  code_is : amendment_code (items_at cell ws) (amendment_at update by) ≡ found_code (amendment_at update by) (object_found cell r)
   unfolding amendment_code name_at
-  code_is = ap (λ (o : Option Item). target_code (amendment_at update by) o) (held_found cell ws (name_at update by) known.stand ∙ rw (is, named))
+  code_is = ap (λ (o : Option Item). found_code (amendment_at update by) o) (held_found cell ws (name_at update by) known.stand ∙ rw (is, named))
 
-  pub code_none : r ≡ Nothing → (x : ℕ) → x ≡ target_code (amendment_at update by) none → x ≡ amendment_code (items_at cell ws) (amendment_at update by)
+  pub code_none : r ≡ Nothing → (x : ℕ) → x ≡ found_code (amendment_at update by) none → x ≡ amendment_code (items_at cell ws) (amendment_at update by)
   unfolding object_found
   code_none e x told = told ∙ sym (code_is ∙ rw e)
 
   module _ (at : ℕ) (found : r ≡ At at) where
-    pub code_some : (x : ℕ) → x ≡ target_code (amendment_at update by) (some (item_at cell at)) → x ≡ amendment_code (items_at cell ws) (amendment_at update by)
+    pub code_some : (x : ℕ) → x ≡ found_code (amendment_at update by) (some (item_at cell at)) → x ≡ amendment_code (items_at cell ws) (amendment_at update by)
     unfolding object_found
     code_some x told = told ∙ sym (code_is ∙ rw found)
 

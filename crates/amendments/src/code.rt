@@ -8,8 +8,8 @@ ghost use Rattle.items.specs.Identity.{ruin_at};
 ghost use Rattle.items.specs.Item.{item_at};
 ghost use Rattle.names.specs.NameWords.{items_at};
 ghost use Rattle.changes.specs.Change.{amendment_at};
-ghost use Rattle.changes.specs.Amend.{edit_allowed, target_code, amendment_code};
-ghost use Rattle.amend.specs.Sides.{AmendAreas};
+ghost use Rattle.changes.specs.Amend.{edit_allowed, found_code, amendment_code};
+ghost use Rattle.amend.specs.Sides.{Areas};
 ghost use Rattle.amend.specs.Pairs.{Paired};
 ghost use Rattle.amendments.specs.Amendable.{Amendable};
 
@@ -24,7 +24,7 @@ use lookups::lookup::{Found, lookup};
 // The code of a record whose name the cell doesn't hold.
 fn missing_code(update: &[u8], by: usize, h: Head) -> u32
     requires { LaidOut update.now by × HeadOf update.now by h × Identified update.now by }
-    ensures { result ≡ target_code (amendment_at update.now by) none }
+    ensures { result ≡ found_code (amendment_at update.now by) none }
 {
     if ruin_of(update, by, h) != 1 {
         return TARGET;
@@ -51,8 +51,8 @@ fn edit_allowed(
     room: &mut [u8],
 ) -> bool
     requires { Paired cell.now at update.now by × HeadOf update.now by h × Identified update.now by × (ruin ≡ ruin_at update.now by)
-        × AmendAreas join.old table.old × (199999 ≤ length room.old) }
-    ensures { (result ≡ edit_allowed (amendment_at update.now by) (item_at cell.now at)) × AmendAreas join.new table.new }
+        × Areas join.old table.old × (199999 ≤ length room.old) }
+    ensures { (result ≡ edit_allowed (amendment_at update.now by) (item_at cell.now at)) × Areas join.new table.new }
 {
     if ruin == 2 {
         return delete_allowed(update, by, h);
@@ -71,9 +71,9 @@ fn held_code(
     table: &mut [u32],
     room: &mut [u8],
 ) -> u32
-    requires { Paired cell.now at update.now by × HeadOf update.now by h × Identified update.now by × AmendAreas join.old table.old
+    requires { Paired cell.now at update.now by × HeadOf update.now by h × Identified update.now by × Areas join.old table.old
         × (199999 ≤ length room.old) }
-    ensures { (result ≡ target_code (amendment_at update.now by) (some (item_at cell.now at))) × AmendAreas join.new table.new }
+    ensures { (result ≡ found_code (amendment_at update.now by) (some (item_at cell.now at))) × Areas join.new table.new }
 {
     let ruin = ruin_of(update, by, h);
     if ruin == 1 {
@@ -105,10 +105,10 @@ pub fn amendment_code(
     table: &mut [u32],
     room: &mut [u8],
 ) -> u32
-    requires { Amendable cell.now (words_in work.now from n) update.now by × (8 * (from + n) ≤ length work.now) × AmendAreas join.old table.old
+    requires { Amendable cell.now (words_in work.now from n) update.now by × (8 * (from + n) ≤ length work.now) × Areas join.old table.old
         × (199999 ≤ length room.old) }
     ensures { (result ≡ amendment_code (items_at cell.now (words_in work.now from n)) (amendment_at update.now by))
-        × AmendAreas join.new table.new }
+        × Areas join.new table.new }
 {
     let h = head_of(update, by);
     let Found::At(at) = lookup(work, from, n, name_of(update, by, h)) else {

@@ -4,7 +4,7 @@ ghost use Rattle.words.specs.Words.{words_in};
 ghost use Rattle.names.specs.NameWords.{items_at};
 ghost use Rattle.changes.specs.Change.{change_of};
 ghost use Rattle.changes.specs.Amend.{amendments_fault, placed_in};
-ghost use Rattle.amend.specs.Sides.{AmendAreas};
+ghost use Rattle.amend.specs.Sides.{Areas};
 ghost use Rattle.amendments.specs.Amendable.{AllAmendable};
 
 use crate::code::amendment_code;
@@ -26,10 +26,10 @@ pub fn amendments_fault(
     table: &mut [u32],
     room: &mut [u8],
 ) -> Refusal
-    requires { AllAmendable cell.now (words_in work.now from n) update.now m × (8 * (from + n) ≤ length work.now) × AmendAreas join.old table.old
+    requires { AllAmendable cell.now (words_in work.now from n) update.now m × (8 * (from + n) ≤ length work.now) × Areas join.old table.old
         × (199999 ≤ length room.old) }
     ensures { (result ≡ placed_in update.now (amendments_fault (items_at cell.now (words_in work.now from n)) 2
-        (change_of update.now m).amendments)) × AmendAreas join.new table.new }
+        (change_of update.now m).amendments)) × Areas join.new table.new }
 {
     let mut at = start_of(update, m, 2);
     let mut k: usize = 2;

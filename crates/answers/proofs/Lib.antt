@@ -2,4 +2,4 @@
 pub mod FirstLaws
 pub mod AnswerLaws
 pub mod SixteenLaws
-pub mod NumbersLaws
+pub mod SmallLaws

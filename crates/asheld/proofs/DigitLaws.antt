@@ -8,14 +8,14 @@ use native.Mathlib.Numerals.{add-one}
 use native.Mathlib.Omega.{arith}
 use lib.ListN.{length, take, drop}
 use Rattle.octets.specs.Number.{byte_at}
-use Rattle.octets.specs.Digits.{no_number, digits_from, number_at, digits_of, fewest}
+use Rattle.octets.specs.Digits.{none, digits_from, number_at, digits_of, fewest}
 use Rattle.octets.specs.Premises.{Sure}
 use Rattle.octets.proofs.Cases.{le_or_lt}
 use Rattle.octets.proofs.DigitsLaws.{goes_on, fewest_least, fewest_most}
 use Rattle.asheld.proofs.PartLaws.{part_more}
 
 -- ---- what is read is written back
-back : (n : ℕ) (s : List ℕ) (i led : ℕ) → i + n ≤ length s → digits_from n s i led < no_number
+back : (n : ℕ) (s : List ℕ) (i led : ℕ) → i + n ≤ length s → digits_from n s i led < none
     → (digits_of n (digits_from n s i led) ≡ take n (drop i s)) × (digits_from n s i led / 10 ^ n ≡ led)
 unfolding digits_from digits_of
 back zero s i led room h = (refl, omega arith)

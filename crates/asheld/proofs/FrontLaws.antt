@@ -8,7 +8,7 @@ use lib.ListN.{length, take, drop}
 use lib.Dec.{eqb}
 use borrow.Author.Tests.{eqb-true, not-false}
 use Rattle.octets.specs.Number.{byte_at, bytes_of}
-use Rattle.octets.specs.Digits.{no_number}
+use Rattle.octets.specs.Digits.{none}
 use Rattle.octets.specs.Premises.{Number, Reads, Sure}
 use Rattle.octets.specs.Area.{Wrote}
 use Rattle.octets.proofs.AreaLaws.{wrote_as}
@@ -17,7 +17,7 @@ use Rattle.iso8211.specs.Field.{Headed}
 use Rattle.iso8211.proofs.DirectoryLaws.{base_sure}
 use Rattle.items.specs.Premises.{LaidOut}
 use Rattle.itemfields.proofs.BytesLaws.{num_bytes}
-use Rattle.asheld.specs.Held.{Same, LeadTold, BackTold, FrontTold, long_of, base_of, leader_front, whole_of, held_bytes}
+use Rattle.asheld.specs.Held.{Same, LeadTold, BackTold, FrontTold, long_of, base_of, front_of, whole_of, held_bytes}
 use Rattle.asheld.proofs.PartLaws.{join}
 use Rattle.asheld.proofs.DigitLaws.{digits_back}
 use Rattle.asheld.proofs.WriteLaws.{held_fits, held_put}
@@ -58,7 +58,7 @@ module _ (s : List ℕ) (small : (i : ℕ) → byte_at s i < 256) where
   long_of_lem at size sure room same seven =
       rw (← same, digits_back sure, seven) (join s at (at + 5) 5 7 refl (omega arith))
 
-  pub lead_by : (at size a b c d : ℕ) → size < no_number → at + 12 ≤ length s → Number s at 5 a → a ≡ size → Reads s (at + 5) 4 b → b ≡ 538985504 → Reads s (at + 9) 2 c → c ≡ 8224
+  pub lead_by : (at size a b c d : ℕ) → size < none → at + 12 ≤ length s → Number s at 5 a → a ≡ size → Reads s (at + 5) 4 b → b ≡ 538985504 → Reads s (at + 9) 2 c → c ≡ 8224
       → Reads s (at + 11) 1 d → LeadTold s at size (eqb d 32)
   lead_by at size a b c d low room read is rb eb rc ec rd =
       let same : size_at s at ≡ size = sym read.is ∙ is in
@@ -83,7 +83,7 @@ module _ (s : List ℕ) (small : (i : ℕ) → byte_at s i < 256) where
       }
 
 pub front_by : (s : List ℕ) (at size : ℕ) (a b : Bool) → Headed s at → LeadTold s at size a → not a ≡ false → BackTold s at b → FrontTold s at size b
-unfolding leader_front
+unfolding front_of
 front_by s at size a b headed lead ya back =
     let there = headed.led.there in
     record {
@@ -116,7 +116,7 @@ module _ (s : List ℕ) (at : ℕ) (laid : LaidOut s at) (same : Same s at) wher
         let fits = same_fits in
         let sum : at + size - at ≡ 20 + (size_at s at - 20) = omega arith in
         ap (λ (k : ℕ). take k (drop at s)) sum ∙ sym (join s at (at + 20) 20 (size_at s at - 20) refl (omega arith))
-        ∙ ap (λ (l : List ℕ). l ++ take (size_at s at - 20) (drop (at + 20) s)) (sym same.front ∙ ap (leader_front (size_at s at)) (sym base_is))
+        ∙ ap (λ (l : List ℕ). l ++ take (size_at s at - 20) (drop (at + 20) s)) (sym same.front ∙ ap (front_of (size_at s at)) (sym base_is))
 
     pub same_put : Wrote a place (held_bytes number s at (size_at s at)) e end
     same_put =

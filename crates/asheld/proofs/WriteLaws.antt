@@ -16,7 +16,7 @@ use Rattle.iso8211.specs.Directory.{row_width}
 use Rattle.iso8211.specs.Field.{count_at, directory_at}
 use Rattle.items.specs.Premises.{LaidOut}
 use Rattle.records.specs.Written.{rows_bytes, leader_of, head_over}
-use Rattle.asheld.specs.Held.{Held, long_of, base_of, leader_front, whole_of, held_bytes}
+use Rattle.asheld.specs.Held.{Held, long_of, base_of, front_of, whole_of, held_bytes}
 use Rattle.asheld.proofs.PartLaws.{join, part_long, part_more, wrote_over}
 use Rattle.asheld.proofs.RowLaws.{rows_back, rows_room, row_sure, row_fits}
 
@@ -44,12 +44,12 @@ module _ {a b : List ℕ} {at m : ℕ} (v : ℕ) (w : Wrote a at (digits_of 5 v)
     base_end x = omega (arith, w.end, x.end, digits_length 5 v)
 
 module _ {a b d : List ℕ} {at m r : ℕ} (size base : ℕ) (v : Wrote a at (long_of size) b m) (w : Wrote b m (base_of base) d r) where
-  pub front_put : Wrote a at (leader_front size base) d r
-  unfolding leader_front
+  pub front_put : Wrote a at (front_of size base) d r
+  unfolding front_of
   front_put = wrote_join v w
 
 -- ---- and all behind that
-module _ (s : List ℕ) (at base size : ℕ) {a b : List ℕ} {place m : ℕ} (v : Wrote a place (leader_front size base) b m) (led : m ≡ place + 20) where
+module _ (s : List ℕ) (at base size : ℕ) {a b : List ℕ} {place m : ℕ} (v : Wrote a place (front_of size base) b m) (led : m ≡ place + 20) where
   same : at + size - (at + 20) ≡ size - 20
   same = omega arith
 
@@ -99,18 +99,18 @@ module _ (s : List ℕ) (at size : ℕ) (laid : LaidOut s at) (held : Held s at 
         ∙ part_more s (at + 20) (at + 21) (suc (suc (suc (n * w + 1)))) (48 + length_digits s at) (omega arith) (omega arith) (omega arith))
 
     head_back : head_over size (base_at s at) (length_digits s at) (position_digits s at) (directory_at s at)
-        ≡ leader_front size (base_at s at) ++ take (base_at s at - 20) (drop (at + 20) s)
-    unfolding head_over leader_of leader_front long_of base_of digits_of
-    head_back = ap (λ (k : List ℕ). leader_front size (base_at s at) ++ k) behind
+        ≡ front_of size (base_at s at) ++ take (base_at s at - 20) (drop (at + 20) s)
+    unfolding head_over leader_of front_of long_of base_of digits_of
+    head_back = ap (λ (k : List ℕ). front_of size (base_at s at) ++ k) behind
 
-    front_long : (base : ℕ) → length (leader_front size base) ≡ 20
-    unfolding leader_front long_of base_of digits_of
+    front_long : (base : ℕ) → length (front_of size base) ≡ 20
+    unfolding front_of long_of base_of digits_of
     front_long base = refl
 
     module _ {a d e : List ℕ} {place end z base : ℕ} (number : ℕ) (is : base ≡ base_at s at) (some : base + 2 ≤ size)
         (x : Wrote a place (whole_of s at base size) d end) (y : Wrote d (place + base) (bytes_of 2 number) e z) where
       abbrev front : List ℕ
-      front = leader_front size base
+      front = front_of size base
 
       abbrev old : List ℕ
       old = take 2 (drop (at + base) s)

@@ -66,12 +66,12 @@ long_of size = digits_of 5 size ++ (32 ∷ 68 ∷ 32 ∷ 32 ∷ 32 ∷ 32 ∷ 32
 unfoldable pub base_of : ℕ → List ℕ
 base_of base = digits_of 5 base ++ (32 ∷ 32 ∷ 32 ∷ [])
 
-unfoldable pub leader_front : ℕ → ℕ → List ℕ
-leader_front size base = long_of size ++ base_of base
+unfoldable pub front_of : ℕ → ℕ → List ℕ
+front_of size base = long_of size ++ base_of base
 
 -- with all behind that as it stands
 unfoldable pub whole_of : List ℕ → ℕ → ℕ → ℕ → List ℕ
-whole_of s at base size = leader_front size base ++ take (size - 20) (drop (at + 20) s)
+whole_of s at base size = front_of size base ++ take (size - 20) (drop (at + 20) s)
 
 -- leader and directory, the running number, the bytes behind it as they stand
 unfoldable pub held_bytes : ℕ → List ℕ → ℕ → ℕ → List ℕ
@@ -88,11 +88,11 @@ pub record BackTold (s : List ℕ) (at : ℕ) (r : Bool) : Type 0 where
   pub is : r ≡ true → base_of (base_at s at) ≡ take 8 (drop (at + 12) s)
 
 pub record FrontTold (s : List ℕ) (at size : ℕ) (r : Bool) : Type 0 where
-  pub is : r ≡ true → leader_front size (base_at s at) ≡ take 20 (drop at s)
+  pub is : r ≡ true → front_of size (base_at s at) ≡ take 20 (drop at s)
   pub read : r ≡ true → size_at s at ≡ size
 
 -- but for the running number the record at `at` is the held form's, byte by byte
 pub record Same (s : List ℕ) (at : ℕ) : Type 0 where
   pub held : Held s at (size_at s at)
-  pub front : leader_front (size_at s at) (base_at s at) ≡ take 20 (drop at s)
+  pub front : front_of (size_at s at) (base_at s at) ≡ take 20 (drop at s)
   pub few : size_at s at ≤ 400000

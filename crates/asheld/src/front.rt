@@ -1,6 +1,6 @@
 // Whether the leader of a record is that of the held form.
 ghost use Rattle.std.specs.Prelude.{◌+◌, ◌≤◌, ◌<◌, length};
-ghost use Rattle.octets.specs.Digits.{no_number};
+ghost use Rattle.octets.specs.Digits.{none};
 ghost use Rattle.iso8211.specs.Field.{Headed};
 ghost use Rattle.asheld.specs.Held.{LeadTold, BackTold, FrontTold};
 
@@ -16,7 +16,7 @@ const SPACE: u32 = 32;
 
 // Whether the record's length, a space, D and five spaces stand at `at`.
 fn is_lead(s: &[u8], at: usize, size: u32) -> bool
-    requires { (size < no_number) × (at + 12 ≤ length s.now) }
+    requires { (size < none) × (at + 12 ≤ length s.now) }
     ensures { LeadTold s.now at size result }
 {
     if get_digits(s, at, 5) != size {
@@ -44,7 +44,7 @@ fn is_back(s: &[u8], at: usize) -> bool
 
 // Whether the leader at `at` is that of the held form, of a record of that size, as far as its digit sizes.
 pub fn is_front(s: &[u8], at: usize, size: u32) -> bool
-    requires { (size < no_number) × Headed s.now at }
+    requires { (size < none) × Headed s.now at }
     ensures { FrontTold s.now at size result }
 {
     if !is_lead(s, at, size) {

@@ -3,7 +3,7 @@ ghost use Rattle.std.specs.Prelude.{◌+◌, ◌≤◌, ◌≡◌, length};
 ghost use Rattle.octets.specs.Area.{Wrote};
 ghost use Rattle.iso8211.specs.Leader.{size_at, base_at};
 ghost use Rattle.items.specs.Premises.{LaidOut};
-ghost use Rattle.asheld.specs.Held.{Held, Same, long_of, base_of, leader_front, whole_of, held_bytes};
+ghost use Rattle.asheld.specs.Held.{Held, Same, long_of, base_of, front_of, whole_of, held_bytes};
 
 use octets::area::copy;
 use octets::digits::{put_digits, sure_digits};
@@ -30,7 +30,7 @@ fn put_base(out: &mut [u8], at: usize, base: u32) -> usize
 // A leader as far as its digit sizes.
 fn put_front(out: &mut [u8], at: usize, size: u32, base: u32) -> usize
     requires { at + 20 ≤ length out.old }
-    ensures { Wrote out.old at (leader_front size base) out.new result × (result ≡ at + 20) }
+    ensures { Wrote out.old at (front_of size base) out.new result × (result ≡ at + 20) }
 {
     let a = put_long(out, at, size);
     put_base(out, a, base)

@@ -1,41 +1,28 @@
 -- Laws of a cell and an update that are read in one pass each. Assumes nothing.
 use Prim.Native.Nat.{ℕ, ◌+◌, ◌-◌, ◌*◌, ◌≤◌}
 use mathlib.Core.List.{List}
-use mathlib.Core.Path.{◌≡◌, refl, sym, ◌∙◌}
+use mathlib.Core.Path.{◌≡◌, ◌∙◌}
 use native.Mathlib.Nat.{add-zero}
 use native.Mathlib.Omega.{arith}
 use lib.ListN.{length, take}
 use Rattle.words.proofs.WordsLaws.{words_front}
 use Rattle.answers.specs.declared.answer.Answer.{Answer}
-use Rattle.answers.specs.Answer.{unrefused, filed}
+use Rattle.answers.specs.Answer.{filed}
 use Rattle.answers.proofs.FirstLaws.{first_tested}
-use Rattle.answers.proofs.AnswerLaws.{filed_none, filed_tested, filed_on}
+use Rattle.answers.proofs.AnswerLaws.{filed_tested}
 use Rattle.names.proofs.ReadableLaws.{readable_three}
-use Rattle.reader.specs.Reader.{front_of, cell_fault, update_fault, both_fault, both_checked}
-use Rattle.reader.specs.Calls.{read_both}
+use Rattle.reader.specs.Reader.{cell_fault, update_fault, both_fault}
 use Rattle.reader.specs.Lent.{BothIn}
 use Rattle.reader.proofs.ReaderLaws.{cell_good}
-use Rattle.readboth.proofs.CallLaws.{few, front_opened, opened_on, worked_on, both_read_on}
+use Rattle.readboth.proofs.CallLaws.{few, front_opened}
 use Rattle.readonce.specs.Once.{CellRead}
-use Rattle.bothonce.specs.Both.{PlacedTold, Raised, BothRead, BothSays, BothTold}
+use Rattle.bothonce.specs.Both.{PlacedTold, Raised, BothRead, BothTold}
 use Rattle.bothonce.specs.declared.both.Both.{Both}
 use Rattle.bothonce.specs.declared.both.Both.TheVariants as both
 use Rattle.bothonce.proofs.RaiseLaws.{raised_part}
 
 pub both_not : {cell update work : List ℕ} → BothTold cell update work both.Not
-unfolding BothSays
-both_not = record { answer = tt; all = λ n m e. absurd (let z : ◌≡◌ {A = ℕ} 0 1 = cc in omega arith) }
-
--- two without any of the codes 1 to 8
-both_none : {cell update work : List ℕ} {n m : ℕ} → BothRead cell n update m work → read_both cell update (length work) ≡ unrefused
-unfolding both_checked
-both_none {cell} {update} {work} {n} {m} so =
-    let w = length work in
-    let second = filed_none 2 (update_fault update m) unrefused so.update_fine refl in
-    let rest : unrefused ≡ both_fault cell n update m = filed_on 1 (cell_fault cell n) (filed 2 (update_fault update m)) unrefused so.cell_fine second in
-    sym (both_read_on cell update w (front_of 1 cell) unrefused refl n so.first
-    (opened_on 2 update (front_of 2 update) refl (λ (k : ℕ). both_checked cell update w n k) unrefused m so.second
-    (worked_on w (n + m) (both_fault cell n update m) unrefused so.room rest)))
+both_not = record { all = λ n m e. absurd (let z : ◌≡◌ {A = ℕ} 0 1 = cc in omega arith) }
 
 -- ---- the cell
 module _ {cell work : List ℕ} {n : ℕ} (so : CellRead cell n work) where
@@ -67,7 +54,6 @@ module _ {cell update before work after : List ℕ} {n i m : ℕ} (so : CellRead
       }
 
   pub both_all : 16 * (n + m) ≤ length after → BothTold cell update after (both.All n m)
-  unfolding BothSays
   both_all room =
       let u = told.told some in
       let read : BothRead cell n update m after = record {
@@ -78,7 +64,7 @@ module _ {cell update before work after : List ℕ} {n i m : ℕ} (so : CellRead
         update_fine = u.fine;
         words = words_both;
       } in
-      record { answer = both_none read; all = λ k j e. let a : n ≡ k = cc in let b : m ≡ j = cc in rw (← a, ← b) read }
+      record { all = λ k j e. let a : n ≡ k = cc in let b : m ≡ j = cc in rw (← a, ← b) read }
 
 -- the two have no code
 pub both_fine : {cell update work : List ℕ} {n m : ℕ} → BothRead cell n update m work → (both_fault cell n update m).code ≡ 0

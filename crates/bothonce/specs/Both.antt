@@ -1,17 +1,14 @@
 -- What the passes over a cell and an update promise. It serves the proofs, and nothing here need be believed. Assumes nothing.
 use Rattle.std.specs.Prelude.{ℕ, ◌+◌, ◌-◌, ◌*◌, ◌≤◌, true, List, ◌≡◌, length}
 use Rattle.answers.specs.Codes.{work_each}
-use Rattle.answers.specs.Answer.{unrefused}
-use Rattle.answers.specs.declared.answer.Answer.{Answer}
 use Rattle.words.specs.Words.{words_in}
 use Rattle.words.specs.Order.{sorted}
 use Rattle.names.specs.NameWords.{name_words}
 use Rattle.reader.specs.Reader.{front_of, cell_fault, update_fault}
-use Rattle.reader.specs.Calls.{read_both}
 use Rattle.reader.specs.Lent.{ComeIn, BothIn}
 use Rattle.reader.specs.declared.front.Front.TheVariants.{Count}
 use Rattle.bothonce.specs.declared.both.Both.{Both}
-use Rattle.bothonce.specs.declared.both.Both.TheVariants.{All, Not}
+use Rattle.bothonce.specs.declared.both.Both.TheVariants.{All}
 
 -- an update of n records without any of the codes 1, 2 and 4 to 7, the words of its records at the front of the area
 pub record UpdateRead (s : List ℕ) (n : ℕ) (area : List ℕ) : Type 0 where
@@ -47,11 +44,5 @@ pub record BothRead (cell : List ℕ) (n : ℕ) (update : List ℕ) (m : ℕ) (w
   pub update_fine : (update_fault update m).code ≡ 0
   pub words : BothIn cell n update m work
 
--- document 01's answer to the two for each case: "0 done: 0, 0" of those that none of the codes 1 to 8 refuses; Not states none
-unfoldable pub BothSays : Answer → Both → Type 0
-BothSays a (All n m) = a ≡ unrefused
-BothSays a Not = Unit {0}
-
 pub record BothTold (cell update work : List ℕ) (r : Both) : Type 0 where
-  pub answer : BothSays (read_both cell update (length work)) r
   pub all : (n m : ℕ) → r ≡ All n m → BothRead cell n update m work

@@ -1,5 +1,5 @@
--- Why the owner's demand 3 says "let any two with the same number be the same bytes" (`OneEach`). `premise_needed`: two updates 1 of the small cell, both accepted; two
--- units that show 1, and other bytes in each. Assumes nothing.
+-- Why demand 3 asks for one file to a number (`OneEach`). `premise_needed`: two updates 1 of the small cell, both accepted; two units that show 1, and other bytes in
+-- each. Assumes nothing.
 use Prim.Native.Nat.{ℕ}
 use mathlib.Core.List.Memᴰ
 use mathlib.Core.List.{List, [], ◌∷◌}
@@ -17,8 +17,7 @@ use Rattle.demands.specs.Cell.{Bytes}
 use Rattle.demands.specs.Update.{Allowed}
 use Rattle.demands.specs.ByteChart.{Whole}
 use Rattle.demands.proofs.Apply.{accepted_readable, accepted_exactly}
-use Rattle.demands.specs.Written.{admit_wrote}
-use Rattle.unit.specs.Unit.{Offer, offered, In, BytesEach, UnitOf}
+use Rattle.unit.specs.Unit.{admit_wrote, Offer, offered, In, BytesEach, UnitOf}
 use Rattle.unit.specs.Unit.UnitOf.{begun, given}
 use Rattle.unit.specs.Reissue.{chart_number, shown, number_of, OneEach}
 use Rattle.unit.proofs.CallLaws.{offered_done}

@@ -18,7 +18,7 @@ use Rattle.edits.specs.InsertDelete.{insert_allowed}
 use Rattle.held.specs.Chart.{Chart}
 use Rattle.changes.specs.Change.{Amendment, edit_of, Change}
 use Rattle.changes.specs.Follow.{follow_code}
-use Rattle.changes.specs.Amend.{held_by, kinds_of, insert_code, identity_same, edit_allowed, modify_code, target_code, amendment_code, amendments_fault, change_fault}
+use Rattle.changes.specs.Amend.{held_by, kinds_of, insert_code, identity_same, edit_allowed, modify_code, found_code, amendment_code, amendments_fault, change_fault}
 
 -- ---- each of these records is allowed
 pub data AllAllowed (held : List Item) : List Amendment → Type 0 where
@@ -82,8 +82,8 @@ no_code true x y ne h = (refl, h)
 no_code false x y ne h = absurd (ne h)
 
 module _ (held : List Item) (a : Amendment) where
-  obeys_none : held_by held (item_name a.object) ≡ none → target_code a none ≡ 0 → Obeys held a
-  unfolding target_code insert_code
+  obeys_none : held_by held (item_name a.object) ≡ none → found_code a none ≡ 0 → Obeys held a
+  unfolding found_code insert_code
   obeys_none e h =
       let p = no_code (eqb a.ruin 1) (insert_code a) 13 (λ z. omega arith) h in
       let q = no_code (eqb a.object.version 1) (cond (insert_allowed (kinds_of a.object.rcnm) (edit_of a)) 0 16) 14 (λ z. omega arith) p.1 in
@@ -98,13 +98,13 @@ module _ (held : List Item) (a : Amendment) where
       let r = no_code (edit_allowed a t) 0 16 (λ z. omega arith) q.1 in
       record { ruin = f; found = e; version = eqb-true a.object.version (t.version + 1) p.0; identity = q.0; allowed = r.0 }
 
-  obeys_some : (t : Item) → held_by held (item_name a.object) ≡ some t → target_code a (some t) ≡ 0 → Obeys held a
-  unfolding target_code
+  obeys_some : (t : Item) → held_by held (item_name a.object) ≡ some t → found_code a (some t) ≡ 0 → Obeys held a
+  unfolding found_code
   obeys_some t e h =
       ⊎_elim (λ (g : eqb a.ruin 1 ≡ true). let z : ◌≡◌ {A = ℕ} 13 0 = rw g at h in absurd (omega arith))
       (λ (g : eqb a.ruin 1 ≡ false). obeys_edit (edits_told t e g (rw g at h))) (true_or_false (eqb a.ruin 1))
 
-  obeys_found : (o : Option Item) → held_by held (item_name a.object) ≡ o → target_code a o ≡ 0 → Obeys held a
+  obeys_found : (o : Option Item) → held_by held (item_name a.object) ≡ o → found_code a o ≡ 0 → Obeys held a
   obeys_found none e h = obeys_none e h
   obeys_found (some t) e h = obeys_some t e h
 
@@ -113,11 +113,11 @@ module _ (held : List Item) (a : Amendment) where
   obeys_told h = obeys_found (held_by held (item_name a.object)) refl h
 
   pub insert_tested : Inserts held a → amendment_code held a ≡ 0
-  unfolding amendment_code target_code insert_code
+  unfolding amendment_code found_code insert_code
   insert_tested i = rw (i.free, eq-eqb a.ruin 1 i.ruin, eq-eqb a.object.version 1 i.version, i.allowed)
 
   pub edit_tested : {t : Item} → Edits held a t → amendment_code held a ≡ 0
-  unfolding amendment_code target_code modify_code
+  unfolding amendment_code found_code modify_code
   edit_tested {t} i = rw (i.found, i.ruin, eq-eqb a.object.version (t.version + 1) i.version, i.identity, i.allowed)
 
   pub obeys_tested : Obeys held a → amendment_code held a ≡ 0

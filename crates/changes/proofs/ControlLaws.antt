@@ -9,7 +9,7 @@ use lib.ListN.{length}
 use borrow.Author.Tests.{eq-eqb, ne_eqb, not-true}
 use Rattle.octets.proofs.Tests.{never}
 use Rattle.octets.proofs.Cases.{eq_or_ne}
-use Rattle.table.specs.Table.{row_of, table, FIRST}
+use Rattle.table.specs.Table.{row_of, table, first}
 use Rattle.layout.proofs.KindLaws.{control_row, opens_group}
 use Rattle.layout.proofs.Promise.{full_control}
 use Rattle.items.specs.Lists.{list_at}
@@ -57,7 +57,7 @@ unfolding list_in
 past_one k j f rest e free control =
     rw (ne_eqb (kind_in f) k (λ x. never (sym free ∙ (ap (λ (i : ℕ). (row_of i).control) (sym e ∙ x) ∙ control))))
 
-first_free : (row_of FIRST).control ≡ false
+first_free : (row_of first).control ≡ false
 unfolding row_of table
 first_free = refl
 
@@ -67,6 +67,6 @@ controlled update stage marks aall nall s at o =
     record {
       five = λ k control.
           let e : list_at s at k ≡ list_in k o.rest = list_seen s at k (o.one ∷ o.two ∷ o.rest) o.is
-          ∙ (past_one k FIRST o.one (o.two ∷ o.rest) o.head first_free control ∙ past_one k (kind_in o.two) o.two o.rest refl (not-true _ g.1) control) in
+          ∙ (past_one k first o.one (o.two ∷ o.rest) o.head first_free control ∙ past_one k (kind_in o.two) o.two o.rest refl (not-true _ g.1) control) in
           rw e (control_once update stage marks (kind_in o.two) k o.rest control g.0 o.laid);
     }

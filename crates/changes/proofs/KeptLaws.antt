@@ -71,7 +71,7 @@ module _ {A : Type 0} (key : A → ℕ) where
   without_comm n k (a ∷ l) = without_pick n k a l (eqb (key a) n) (eqb (key a) k) refl refl (without_comm n k l)
 
 -- ---- the same of one record and of all
-module _ {A U : Type 0} (by : merge.Updating A U) (named : Named (rules_of by)) where
+module _ {A U : Type 0} (by : merge.Change A U) (named : Named (rules_of by)) where
   obeyed_without : (u : U) (l : List A) → by.key (by.made u) ≡ by.name u → without by.key (by.name u) (obeyed by u l) ≡ without by.key (by.name u) l
   unfolding obeyed
   obeyed_without u l e =

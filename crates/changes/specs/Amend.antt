@@ -42,12 +42,12 @@ modify_code a held =
     cond (eqb a.object.version (held.version + 1)) (cond (identity_same a.object held) (cond (edit_allowed a held) 0 EDIT) IDENTITY) VERSION
 
 -- "13 Target: insert of a held name or modify/delete of none"
-unfoldable pub target_code : Amendment → Option Item → ℕ
-target_code a none = cond (eqb a.ruin 1) (insert_code a) TARGET
-target_code a (some held) = cond (eqb a.ruin 1) TARGET (modify_code a held)
+unfoldable pub found_code : Amendment → Option Item → ℕ
+found_code a none = cond (eqb a.ruin 1) (insert_code a) TARGET
+found_code a (some held) = cond (eqb a.ruin 1) TARGET (modify_code a held)
 
 unfoldable pub amendment_code : List Item → Amendment → ℕ
-amendment_code held a = target_code a (held_by held (item_name a.object))
+amendment_code held a = found_code a (held_by held (item_name a.object))
 
 -- "13 to 16 record by record in the update's order": the first of these records that has a code, the first being record k
 unfoldable pub amendments_fault : List Item → ℕ → List Amendment → Refusal

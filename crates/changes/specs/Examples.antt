@@ -18,7 +18,7 @@ use Rattle.edits.specs.InsertDelete.{is_absent, no_control, plain_at, insert_all
 use Rattle.merge.specs.Update.{placed, without, changed, obeyed, result}
 use Rattle.changes.specs.Change.{Amendment, Change}
 use Rattle.changes.specs.Follow.{chart_name, follow_code}
-use Rattle.changes.specs.Amend.{held_by, kinds_of, insert_code, identity_same, edit_allowed, modify_code, target_code, amendment_code, amendments_fault, change_fault}
+use Rattle.changes.specs.Amend.{held_by, kinds_of, insert_code, identity_same, edit_allowed, modify_code, found_code, amendment_code, amendments_fault, change_fault}
 use Rattle.changes.specs.Updated.{updated_header, amended, updated}
 use Rattle.answers.specs.First.{first_by}
 use Rattle.answers.specs.declared.refusal.Refusal.{Refusal}
@@ -103,7 +103,7 @@ all_three : ((change_fault small moved).code ≡ 0)
 unfolding one two valued node light header small plain controlled update seen seen_all moved num_at same_list all_of label_of is_removal is_attributes rank_of name_from is_feature
     gone come allowed edited edited_by named change finds changes changes_find is_none coordinates control_of list_allowed list_edited allowed_at lists_allowed lists_edited
     is_absent no_control plain_at insert_allowed delete_allowed placed without changed obeyed result chart_name follow_code held_by kinds_of insert_code identity_same edit_allowed
-    modify_code target_code amendment_code amendments_fault change_fault revised updated_header amended updated first_by
+    modify_code found_code amendment_code amendments_fault change_fault revised updated_header amended updated first_by
 all_three = (refl, refl, refl)
 
 -- ---- the codes of the header: another chart, another edition, "A cell at 3 given update 3 or 5: 11", another level
@@ -122,7 +122,7 @@ second a = told (change_fault small (update (plain 1 (node 9 1 ((99 ∷ []) ∷ 
 -- an insert of a held name, a modify of none
 targets : (second (plain 1 (node 2 1 ((22 ∷ []) ∷ []))) ∷ second (plain 3 (node 3 1 [])) ∷ []) ≡ (13 ∷ 3 ∷ []) ∷ (13 ∷ 3 ∷ []) ∷ []
 unfolding one two valued node light header small plain update told second num_at same_list all_of is_attributes rank_of name_from is_feature is_absent no_control plain_at insert_allowed
-    chart_name follow_code held_by kinds_of insert_code target_code amendment_code amendments_fault change_fault first_by
+    chart_name follow_code held_by kinds_of insert_code found_code amendment_code amendments_fault change_fault first_by
 targets = refl
 
 -- an insert of version 2; a delete of version 4 where 4 is held; a modify of another class; one that brings a pair without control; one that removes a
@@ -138,5 +138,5 @@ edits : (second (plain 1 (node 3 2 ((33 ∷ []) ∷ [])))
     ≡ (14 ∷ 3 ∷ []) ∷ (14 ∷ 3 ∷ []) ∷ (15 ∷ 3 ∷ []) ∷ (16 ∷ 3 ∷ []) ∷ (16 ∷ 3 ∷ []) ∷ (16 ∷ 3 ∷ []) ∷ (16 ∷ 3 ∷ []) ∷ []
 unfolding one two valued node light header small plain update told second num_at same_list all_of label_of is_removal is_attributes rank_of name_from is_feature
     gone come allowed named change finds changes_find is_none coordinates control_of list_allowed allowed_at lists_allowed is_absent no_control plain_at insert_allowed delete_allowed
-    chart_name follow_code held_by kinds_of insert_code identity_same edit_allowed modify_code target_code amendment_code amendments_fault change_fault first_by
+    chart_name follow_code held_by kinds_of insert_code identity_same edit_allowed modify_code found_code amendment_code amendments_fault change_fault first_by
 edits = refl

@@ -5,7 +5,7 @@ use Rattle.attributes.specs.Attributes.{label_of, is_removal}
 use Rattle.fieldvalue.specs.Value.{is_attributes}
 use Rattle.items.specs.Item.{Item, item_name}
 use Rattle.held.specs.Chart.{Header, Chart}
-use Rattle.edits.specs.Control.{Control, ControlRules}
+use Rattle.edits.specs.Control.{Control, Allowed}
 use Rattle.edits.specs.AttributeEdit.{named, change}
 use Rattle.edits.specs.Lists.{Edit, control_of}
 use Rattle.changes.specs.Change.{Amendment, edit_of, Change}
@@ -65,7 +65,7 @@ pub data Finds : List (List ℕ) → List (List ℕ) → Type 0 where
 -- a list of kind k in a modify: attributes; entries with a control, "A control .. acts on its list"; "a list without control is refused"
 pub data ListKept (u : Edit) (held : ℕ → List (List ℕ)) (k : ℕ) : Type 0 where
   by_label : is_attributes k ≡ true → Finds (held k) (u.lists k) → ListKept u held k
-  by_control : {c : Control} → is_attributes k ≡ false → control_of u held k ≡ some c → ControlRules c (length (held k)) (length (u.lists k)) → ListKept u held k
+  by_control : {c : Control} → is_attributes k ≡ false → control_of u held k ≡ some c → Allowed c (length (held k)) (length (u.lists k)) → ListKept u held k
   by_none : is_attributes k ≡ false → control_of u held k ≡ none → u.lists k ≡ [] → ListKept u held k
 
 pub record ModifyKept (held : List Item) (a : Amendment) (t : Item) : Type 0 where

@@ -30,7 +30,7 @@ amended a t = record {
 }
 
 -- an insert brings the record's own object
-abbrev pub by_amendment : merge.Updating Item Amendment
+abbrev pub by_amendment : merge.Change Item Amendment
 by_amendment = record {
   key = item_name;
   name = λ (a : Amendment). item_name a.object;

@@ -2,12 +2,12 @@
 use Rattle.std.specs.Prelude.{ℕ, zero, suc, ◌+◌, ◌-◌, Bool, true, false, cond, not, ◌&&◌, ◌||◌, List, length, leb, eqb}
 use Rattle.octets.specs.Number.{byte_at}
 use Rattle.octets.specs.Digits.{is_digit, number_at}
-use Rattle.values.specs.Fault.{fault_at, first_fault}
+use Rattle.values.specs.Fault.{fault_at, first}
 use Rattle.headvalues.specs.Text.{text_in, text_end}
 use Rattle.dates.specs.Date.{date_good}
 use Rattle.values.specs.Rule.{within, rcid_good, profile_of, digits_within}
 use Rattle.dataset.specs.declared.Ends.{Ends}
-use Rattle.table.specs.Offsets.{RCID, DSID_EXPP, DSID_INTU, DSID_DSNM, UPDN_UADT, UPDN_PSDN}
+use Rattle.table.specs.Offsets.{RCID, DSID_EXPP, DSID_INTU, DSID_DSNM}
 
 -- ---- where its six texts end
 -- "b11,b14,2b11,3A,2A(8),R(4),b11,2A,b11,b12,A": seven bytes, DSNM, EDTN, UPDN, 21 bytes, PSDN, PRED, three bytes, COMT
@@ -21,7 +21,7 @@ abbrev pub updn_end : List ℕ → ℕ
 updn_end s = text_end s (edtn_end s + 1)
 
 abbrev pub psdn_end : List ℕ → ℕ
-psdn_end s = text_end s (updn_end s + UPDN_PSDN)
+psdn_end s = text_end s (updn_end s + 22)
 
 abbrev pub pred_end : List ℕ → ℕ
 pred_end s = text_end s (psdn_end s + 1)
@@ -85,38 +85,38 @@ pred_good s i e = eqb e (i + 3) && (eqb (byte_at s i) 50 && (eqb (byte_at s (i +
 -- RCNM, RCID, EXPP, INTU: "RCNM 10, 20 ..", here 10, "INTU (1 to 6)"
 unfoldable pub head_fault : Bool → List ℕ → ℕ
 head_fault update s =
-    first_fault (fault_at 0 (eqb (byte_at s 0) 10))
-    (first_fault (fault_at RCID (rcid_good s RCID))
-    (first_fault (fault_at DSID_EXPP (eqb (byte_at s DSID_EXPP) (profile_of update)))
+    first (fault_at 0 (eqb (byte_at s 0) 10))
+    (first (fault_at RCID (rcid_good s RCID))
+    (first (fault_at DSID_EXPP (eqb (byte_at s DSID_EXPP) (profile_of update)))
     (fault_at DSID_INTU (within 1 6 (byte_at s DSID_INTU)))))
 
 -- DSNM, EDTN, UPDN
 unfoldable pub names_fault : Bool → List ℕ → Ends → ℕ
 names_fault update s e =
-    first_fault (fault_at DSID_DSNM (dsnm_good update s e.dsnm))
-    (first_fault (fault_at (e.dsnm + 1) (edtn_good s (e.dsnm + 1) e.edtn))
+    first (fault_at DSID_DSNM (dsnm_good update s e.dsnm))
+    (first (fault_at (e.dsnm + 1) (edtn_good s (e.dsnm + 1) e.edtn))
     (fault_at (e.edtn + 1) (updn_good update s (e.edtn + 1) e.updn)))
 
 -- UADT, ISDT, STED, PRSP, of which the first begins at i: "PRSP 1"
 unfoldable pub issue_fault : Bool → List ℕ → ℕ → ℕ
 issue_fault update s i =
-    first_fault (fault_at i (uadt_good update s i))
-    (first_fault (fault_at (i + 8) (date_good s (i + 8)))
-    (first_fault (fault_at (i + 16) (sted_good s (i + 16)))
+    first (fault_at i (uadt_good update s i))
+    (first (fault_at (i + 8) (date_good s (i + 8)))
+    (first (fault_at (i + 16) (sted_good s (i + 16)))
     (fault_at (i + 20) (eqb (byte_at s (i + 20)) 1))))
 
 -- PSDN, PRED, PROF, AGEN, COMT: "PSDN empty", AGEN is free, COMT is text
 unfoldable pub product_fault : Bool → List ℕ → Ends → ℕ
 product_fault update s e =
-    first_fault (fault_at (e.updn + UPDN_PSDN) (eqb e.psdn (e.updn + UPDN_PSDN)))
-    (first_fault (fault_at (e.psdn + 1) (pred_good s (e.psdn + 1) e.pred))
-    (first_fault (fault_at (e.pred + 1) (eqb (byte_at s (e.pred + 1)) (profile_of update)))
+    first (fault_at (e.updn + 22) (eqb e.psdn (e.updn + 22)))
+    (first (fault_at (e.psdn + 1) (pred_good s (e.psdn + 1) e.pred))
+    (first (fault_at (e.pred + 1) (eqb (byte_at s (e.pred + 1)) (profile_of update)))
     (fault_at (e.pred + 4) (text_in false s (e.pred + 4) e.comt))))
 
 -- the fault of a DSID whose texts end as e says
 unfoldable pub dsid_over : Bool → List ℕ → Ends → ℕ
 dsid_over update s e =
-    first_fault (head_fault update s) (first_fault (names_fault update s e) (first_fault (issue_fault update s (e.updn + UPDN_UADT)) (product_fault update s e)))
+    first (head_fault update s) (first (names_fault update s e) (first (issue_fault update s (e.updn + 1)) (product_fault update s e)))
 
 -- the fault of a DSID
 unfoldable pub dsid_fault : Bool → List ℕ → ℕ

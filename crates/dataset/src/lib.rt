@@ -1,6 +1,6 @@
 // Document 01's rules under "Values" for DSID, on its lent field without the closing 1E: whether its
-// subfields fill it, where its texts end, and the first subfield that is wrong. It takes the rule of
-// one number from `values`, text from `headvalues`, and whether digits are a date from `dates`.
+// subfields fill it, where its texts end, and the first subfield that is wrong; and dates. It takes rules
+// and text from `values`.
 ghost use Rattle.std.specs.Prelude.{◌+◌, ◌≤◌, ◌≡◌, length};
 ghost use Rattle.dataset.specs.Dsid.{dsid_ends, dsid_laid, is_code, codes_at, extension_good, dsnm_good, updn_good, uadt_good, sted_good, pred_good, head_fault, names_fault};
 ghost use Rattle.dataset.specs.Dsid.{issue_fault, product_fault, dsid_fault};
@@ -11,7 +11,7 @@ use headvalues::text::{text_end, text_good_in};
 use octets::digits::get_digits;
 use octets::number::wide;
 use table::offsets;
-use values::fault::{fault_at, first_fault};
+use values::fault::{fault_at, first};
 use values::rule::{digits_within, profile, rcid_good, within};
 
 // Where the six texts of a DSID end, each at its 1F.
@@ -179,7 +179,7 @@ fn head_fault(f: &[u8], update: bool) -> usize
         offsets::DSID_INTU,
         within(wide(f[offsets::DSID_INTU]), 1, 6),
     );
-    first_fault(rcnm, first_fault(rcid, first_fault(expp, intu)))
+    first(rcnm, first(rcid, first(expp, intu)))
 }
 
 // The fault among DSNM, EDTN and UPDN.
@@ -192,7 +192,7 @@ fn names_fault(f: &[u8], e: Ends, update: bool) -> usize
     let name = fault_at(offsets::DSID_DSNM, dsnm_good(f, e.dsnm, update));
     let edition = fault_at(edtn, digits_within(f, edtn, e.edtn, 4, 1, 9999));
     let number = fault_at(updn, updn_good(f, updn, e.updn, update));
-    first_fault(name, first_fault(edition, number))
+    first(name, first(edition, number))
 }
 
 // The fault among UADT, ISDT, STED and PRSP, of which the first begins at `at`.
@@ -204,7 +204,7 @@ fn issue_fault(f: &[u8], at: usize, update: bool) -> usize
     let isdt = fault_at(at + 8, date_good(f, at + 8));
     let sted = fault_at(at + 16, sted_good(f, at + 16));
     let prsp = fault_at(at + 20, f[at + 20] == 1);
-    first_fault(uadt, first_fault(isdt, first_fault(sted, prsp)))
+    first(uadt, first(isdt, first(sted, prsp)))
 }
 
 // The fault among PSDN, PRED, PROF and COMT.
@@ -220,7 +220,7 @@ fn product_fault(f: &[u8], e: Ends, update: bool) -> usize
     let product = fault_at(pred, pred_good(f, pred, e.pred));
     let profiled = fault_at(prof, f[prof] == profile(update));
     let comment = fault_at(comt, text_good_in(f, comt, e.comt, false));
-    first_fault(empty, first_fault(product, first_fault(profiled, comment)))
+    first(empty, first(product, first(profiled, comment)))
 }
 
 // The fault of a DSID.
@@ -233,5 +233,5 @@ pub fn dsid_fault(f: &[u8], update: bool) -> usize
     let names = names_fault(f, e, update);
     let issue = issue_fault(f, e.updn + 1, update);
     let product = product_fault(f, e, update);
-    first_fault(head, first_fault(names, first_fault(issue, product)))
+    first(head, first(names, first(issue, product)))
 }

@@ -18,8 +18,8 @@ use Rattle.fieldparts.specs.declared.descriptive.Parts.{Parts}
 use Rattle.iso8211.specs.declared.field.Field.{Field}
 use Rattle.formats.specs.declared.Formats.{Formats}
 use Rattle.table.specs.Text.{bytes}
-use Rattle.table.specs.Table.{row_of, kind_of, FIRST}
-use Rattle.declarations.specs.Described.{field_bytes, labels_in, formats_in, same_formats, describes, no_marks, described_from, described_of}
+use Rattle.table.specs.Table.{row_of, kind_of, first}
+use Rattle.declarations.specs.Described.{field_bytes, labels_in, formats_in, same_formats, describes, none, described_from, described_of}
 use Rattle.declarations.specs.Premises.{same_texts}
 
 -- ---- formats_same
@@ -80,12 +80,12 @@ field_room s j n f h count less e = let within = (h.fields j (omega arith)).with
 
 -- ---- rest: the answer is that from field j on
 from_no : (n : ℕ) (s : List ℕ) (j : ℕ) (marks : List ℕ) (f : Field) (k : ℕ) → f ≡ field_at s 0 j → k ≡ kind_of f.tag
-    → (ltb k FIRST && (eqb (get_or marks k 0) 0 && describes k (field_bytes s f))) ≡ false → described_from (suc n) s j marks ≡ []
+    → (ltb k first && (eqb (get_or marks k 0) 0 && describes k (field_bytes s f))) ≡ false → described_from (suc n) s j marks ≡ []
 unfolding described_from
 from_no n s j marks f k e is h = rw (← e, ← is, h)
 
 from_on : (n : ℕ) (s : List ℕ) (j : ℕ) (marks : List ℕ) (f : Field) (k : ℕ) → f ≡ field_at s 0 j → k ≡ kind_of f.tag
-    → (ltb k FIRST && (eqb (get_or marks k 0) 0 && describes k (field_bytes s f))) ≡ true
+    → (ltb k first && (eqb (get_or marks k 0) 0 && describes k (field_bytes s f))) ≡ true
     → described_from (suc n) s j marks ≡ described_from n s (j + 1) (set marks k 1)
 unfolding described_from
 from_on n s j marks f k e is h = rw (← e, ← is, h)
@@ -95,23 +95,23 @@ module _ (s all : List ℕ) (j n : ℕ) (marks : List ℕ) (f : Field) (k : ℕ)
   left : count_at s 0 - j ≡ suc (count_at s 0 - (j + 1))
   left = omega arith
 
-  stops : (x : List ℕ) → x ≡ [] → (ltb k FIRST && (eqb (get_or marks k 0) 0 && describes k (field_bytes s f))) ≡ false → x ≡ all
+  stops : (x : List ℕ) → x ≡ [] → (ltb k first && (eqb (get_or marks k 0) 0 && describes k (field_bytes s f))) ≡ false → x ≡ all
   stops x empty h = rw (empty, so, left) (sym (from_no (count_at s 0 - (j + 1)) s j marks f k e is h))
 
-  pub turn_unknown : (x : List ℕ) → x ≡ [] → FIRST ≤ k → x ≡ all
-  turn_unknown x empty h = stops x empty (rw (le-ltb k FIRST h))
+  pub turn_unknown : (x : List ℕ) → x ≡ [] → first ≤ k → x ≡ all
+  turn_unknown x empty h = stops x empty (rw (le-ltb k first h))
 
-  pub turn_twice : (x : List ℕ) → x ≡ [] → k < FIRST → (get_or marks k 0 ≡ 0 → ⊥) → x ≡ all
-  turn_twice x empty h again = stops x empty (rw (lt-ltb k FIRST h, ne_eqb (get_or marks k 0) 0 again))
+  pub turn_twice : (x : List ℕ) → x ≡ [] → k < first → (get_or marks k 0 ≡ 0 → ⊥) → x ≡ all
+  turn_twice x empty h again = stops x empty (rw (lt-ltb k first h, ne_eqb (get_or marks k 0) 0 again))
 
-  module _ (r : Bool) (known : k < FIRST) (fresh : get_or marks k 0 ≡ 0) (judged : r ≡ describes k (field_bytes s f)) where
+  module _ (r : Bool) (known : k < first) (fresh : get_or marks k 0 ≡ 0) (judged : r ≡ describes k (field_bytes s f)) where
     pub turn_other : (x : List ℕ) → x ≡ [] → not r ≡ true → x ≡ all
-    turn_other x empty h = stops x empty (rw (lt-ltb k FIRST known, eq-eqb (get_or marks k 0) 0 fresh) (told_no r _ judged h))
+    turn_other x empty h = stops x empty (rw (lt-ltb k first known, eq-eqb (get_or marks k 0) 0 fresh) (told_no r _ judged h))
 
     pub turn_on : not r ≡ false → all ≡ described_from (count_at s 0 - (j + 1)) s (j + 1) (set marks k 1)
     turn_on h =
         rw (so, left)
-        (from_on (count_at s 0 - (j + 1)) s j marks f k e is (rw (lt-ltb k FIRST known, eq-eqb (get_or marks k 0) 0 fresh) (told_yes r _ judged h)))
+        (from_on (count_at s 0 - (j + 1)) s j marks f k e is (rw (lt-ltb k first known, eq-eqb (get_or marks k 0) 0 fresh) (told_yes r _ judged h)))
 
 pub turn_end : (s all : List ℕ) (j n : ℕ) (marks : List ℕ) → all ≡ described_from (count_at s 0 - j) s j marks → n ≡ count_at s 0 → n ≤ j → marks ≡ all
 unfolding described_from
@@ -134,13 +134,13 @@ module _ (s x : List ℕ) (n : ℕ) (count : n ≡ count_at s 0) where
       one_other empty h =
           rw (← count, ← e, ← e', le-leb 2 n enough, eq-eqb zeroth.tag 808464432 is, ne_eqb one.tag 808464433 h) empty
 
-      module _ (r : Bool) (is' : one.tag ≡ 808464433) (judged : r ≡ describes FIRST (field_bytes s one)) where
+      module _ (r : Bool) (is' : one.tag ≡ 808464433) (judged : r ≡ describes first (field_bytes s one)) where
         pub one_wrong : x ≡ [] → not r ≡ true → x ≡ described_of s
         unfolding described_of
         one_wrong empty h =
             rw (← count, ← e, ← e', le-leb 2 n enough, eq-eqb zeroth.tag 808464432 is, eq-eqb one.tag 808464433 is', told_no r _ judged h) empty
 
-        pub rest_left : not r ≡ false → x ≡ described_from (count_at s 0 - 2) s 2 no_marks → x ≡ described_of s
+        pub rest_left : not r ≡ false → x ≡ described_from (count_at s 0 - 2) s 2 none → x ≡ described_of s
         unfolding described_of
         rest_left h so =
             rw (le-leb 2 (count_at s 0) (omega arith), ← e, ← e', eq-eqb zeroth.tag 808464432 is, eq-eqb one.tag 808464433 is', told_yes r _ judged h) so

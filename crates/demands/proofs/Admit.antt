@@ -16,7 +16,7 @@ use Rattle.answers.specs.First.{first_answer}
 use Rattle.answers.proofs.FirstLaws.{first_on, first_told}
 use Rattle.answers.proofs.AnswerLaws.{filed_told, filed_tested}
 use Rattle.readboth.proofs.CallLaws.{opening_told, work_on, work_told}
-use Rattle.reader.specs.Reader.{front_of, cell_records, work_answer}
+use Rattle.reader.specs.Reader.{front_of, count_in, work_answer}
 use Rattle.answers.specs.declared.answer.Answer.{Answer}
 use Rattle.reader.specs.declared.front.Front.TheVariants.{Count}
 use Rattle.held.specs.Chart.{Chart, chart_of}
@@ -44,17 +44,17 @@ held_told o c h =
 
 -- what is known of a cell that is accepted
 record Accepted (s : List ℕ) (w o : ℕ) : Type 0 where
-  opened : front_of 1 s ≡ Count (cell_records s)
-  verdict : (cell_verdict s (cell_records s)).code ≡ 0
+  opened : front_of 1 s ≡ Count (count_in s)
+  verdict : (cell_verdict s (count_in s)).code ≡ 0
   fit : fits (cell_chart s) ≡ true
-  room : 16 * cell_records s ≤ w
+  room : 16 * count_in s ≤ w
   long : length (held_of (cell_chart s)) ≤ o
   is : admit_of s w o ≡ answer 0 0 0 (length (held_of (cell_chart s))) 0
 
 accepted : (s : List ℕ) (w o : ℕ) → (admit_of s w o).code ≡ 0 → Accepted s w o
 unfolding admit_of
 accepted s w o h =
-    let n = cell_records s in
+    let n = count_in s in
     let p = opening_told 1 s (λ (k : ℕ). first_answer (work_answer w k) (first_answer (filed 1 (cell_verdict s k)) (held_answer o (chart_of s k)))) h in
     let a = work_told w n (first_answer (filed 1 (cell_verdict s n)) (held_answer o (chart_of s n))) p.2 in
     let b = first_told (λ (x : Answer). x.code) (filed 1 (cell_verdict s n)) (held_answer o (chart_of s n)) a.2 in
@@ -89,7 +89,7 @@ area_done s w out is = rw is
 admitted_only : (s : List ℕ) (w o : ℕ) → Bytes s → (admit_of s w o).code ≡ 0 → Admissible s w o
 admitted_only s w o bytes h =
     let a = accepted s w o h in
-    let p = verdict_sound s (cell_records s) bytes a.opened a.verdict in
+    let p = verdict_sound s (count_in s) bytes a.opened a.verdict in
     record {
       readable = record { opened = a.opened; fine = p.0 };
       sound = p.1;
@@ -99,7 +99,7 @@ admitted_only s w o bytes h =
 
 admitted_all : (s : List ℕ) (w o : ℕ) → Bytes s → Admissible s w o → (admit_of s w o).code ≡ 0
 admitted_all s w o bytes a =
-    let n = cell_records s in
+    let n = count_in s in
     let r = a.readable in
     let verdict = sound_verdict s n bytes r.opened r.fine a.sound in
     ap (λ (x : Answer). x.code)

@@ -18,7 +18,7 @@ use Rattle.answers.specs.First.{first_by, first_answer}
 use Rattle.answers.proofs.FirstLaws.{first_on, first_told}
 use Rattle.answers.proofs.AnswerLaws.{filed_told, filed_tested}
 use Rattle.readboth.proofs.CallLaws.{opening_told, work_on, work_told}
-use Rattle.reader.specs.Reader.{front_of, fronted, opening, cell_records, work_answer, cell_fault, update_fault}
+use Rattle.reader.specs.Reader.{front_of, fronted, opening, count_in, work_answer, cell_fault, update_fault}
 use Rattle.answers.specs.declared.answer.Answer.{Answer}
 use Rattle.reader.specs.declared.front.Front.TheVariants.{Count}
 use Rattle.held.specs.Chart.{Chart, chart_of}
@@ -58,10 +58,10 @@ placed_told s r h =
 
 -- what is known of a file that is accepted on a cell
 record Accepted (cell file : List ℕ) (w o : ℕ) : Type 0 where
-  opened : front_of 1 cell ≡ Count (cell_records cell)
+  opened : front_of 1 cell ≡ Count (count_in cell)
   second : front_of 2 file ≡ Count (changes_in file)
-  room : 16 * (cell_records cell + changes_in file) ≤ w
-  cell_fine : (cell_fault cell (cell_records cell)).code ≡ 0
+  room : 16 * (count_in cell + changes_in file) ≤ w
+  cell_fine : (cell_fault cell (count_in cell)).code ≡ 0
   file_fine : (update_fault file (changes_in file)).code ≡ 0
   change_fine : (change_fault (cell_chart cell) (file_change file)).code ≡ 0
   topology : (chart_topology (updated_by (cell_chart cell) file)).code ≡ 0
@@ -72,7 +72,7 @@ record Accepted (cell file : List ℕ) (w o : ℕ) : Type 0 where
 accepted : (cell file : List ℕ) (w o : ℕ) → (apply_of cell file w o).code ≡ 0 → Accepted cell file w o
 unfolding apply_of
 accepted cell file w o h =
-    let n = cell_records cell in
+    let n = count_in cell in
     let m = changes_in file in
     let made = result_of cell n file m in
     let fault = change_fault (chart_of cell n) (change_of file m) in
@@ -145,7 +145,7 @@ accepted_only cell file w o bytes h =
 
 accepted_all : (cell file : List ℕ) (w o : ℕ) → Readable cell → Allowed (cell_chart cell) file × Areas cell file w o → (apply_of cell file w o).code ≡ 0
 accepted_all cell file w o r p =
-    let n = cell_records cell in
+    let n = count_in cell in
     let m = changes_in file in
     let a = p.0 in
     let made = updated_by (cell_chart cell) file in
@@ -203,7 +203,7 @@ module _ (cell file : List ℕ) (bytes : Bytes cell) (these : Bytes file) where
       let made = updated_by (cell_chart cell) file in
       let good = applied_good (accepted_readable cell file w o h) a in
       let new = held_of made in
-      let n = cell_records new in
+      let n = count_in new in
       let m = changes_in file in
       let r = held_readable made good in
       let enough : 16 * (n + m) ≤ v = rw (held_count made good) room in

@@ -27,7 +27,7 @@ use Rattle.demands.specs.Cell.{Bytes}
 use Rattle.demands.specs.ByteChart.{ByteList, ByteDsid, ByteObject, ByteChart, ByteChange}
 use Rattle.demands.proofs.AllLaws.{all_take, all_drop, all_cond, changes_all, edited_all, placed_all, without_all, changed_all}
 use Rattle.demands.proofs.HeldBytes.{byte_list}
-use Rattle.reader.specs.Reader.{cell_records}
+use Rattle.reader.specs.Reader.{count_in}
 use Rattle.loader.specs.Admit.{cell_chart}
 use Rattle.loader.specs.Apply.{changes_in, file_change, updated_by}
 
@@ -82,7 +82,7 @@ unfolding chart_of header_of held_items
 cell_bytes cell bytes = record {
   dsid = dsid_bytes_lem cell bytes (record_at cell 1);
   dspm = content_bytes cell bytes (record_at cell 2) 1;
-  items = order_bytes (objects_bytes cell bytes (cell_records cell - 3) (record_at cell 3));
+  items = order_bytes (objects_bytes cell bytes (count_in cell - 3) (record_at cell 3));
 }
 
 pub file_bytes : (file : List ℕ) → Bytes file → ByteChange (file_change file)

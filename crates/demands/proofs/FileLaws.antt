@@ -1,7 +1,7 @@
 -- What a readable cell and a readable update mean: a good chart, a good change. Assumes nothing.
 use Prim.Native.Nat.{ℕ}
 use mathlib.Core.List.{List}
-use Rattle.reader.specs.Reader.{cell_records}
+use Rattle.reader.specs.Reader.{count_in}
 use Rattle.held.specs.Good.{GoodChart}
 use Rattle.held.proofs.CellLaws.{cell_told}
 use Rattle.changes.specs.Good.{GoodChange}
@@ -16,9 +16,9 @@ use Rattle.demands.specs.Update.{ReadableUpdate}
 -- ---- a readable cell
 pub cell_good : (s : List ℕ) → Bytes s → Readable s → GoodChart (cell_chart s)
 cell_good s bytes r =
-    let f = front_opened 1 s (cell_records s) r.opened in
-    let t = cell_parts s (cell_records s) r.fine in
-    (cell_told s (cell_records s) f.framed f.short bytes.small t.0 t.1).good
+    let f = front_opened 1 s (count_in s) r.opened in
+    let t = cell_parts s (count_in s) r.fine in
+    (cell_told s (count_in s) f.framed f.short bytes.small t.0 t.1).good
 
 -- ---- a readable update
 pub change_good : (file : List ℕ) → Bytes file → ReadableUpdate file → GoodChange (file_change file)

@@ -13,7 +13,7 @@ use Rattle.octets.specs.Digits.{digits_of, fewest}
 use Rattle.octets.proofs.DigitsLaws.{fewest_most}
 use Rattle.entries.specs.Rules.{all_of}
 use Rattle.table.specs.Text.{bytes}
-use Rattle.table.specs.Table.{row_of, table, as_number, tag_of, kind_count, DSID, DSSI, DSPM, VRID, FRID, FOID, FIRST}
+use Rattle.table.specs.Table.{row_of, table, as_number, tag_of, kind_count, DSID, DSSI, DSPM, VRID, FRID, FOID, first}
 use Rattle.counted.specs.declared.counts.Tally.{Tally}
 use Rattle.records.specs.Pieces.{Piece}
 use Rattle.records.specs.Written.{tag_bytes, piece_length, body_of, rows_for, longest, farthest, length_size, position_size, row_bytes, rows_bytes, base_for, leader_of, head_over}
@@ -111,7 +111,7 @@ unfolding farthest rows_for body_of
 farthest_low [] due = omega arith
 farthest_low (f ∷ fs) due = rw length-append (let r = farthest_low fs (due + piece_length f) in omega arith)
 
-record_low : {fs : List Piece} → records.Writable fs → All BytePiece fs → ByteList (record_bytes fs)
+record_low : {fs : List Piece} → records.Fits fs → All BytePiece fs → ByteList (record_bytes fs)
 unfolding record_bytes head_bytes head_over size_of
 record_low {fs} fit h =
     let es = rows_for 0 fs in
@@ -174,12 +174,12 @@ object_low n t b = pick (is_feature t.rcnm)
   where
     pick : (z : Bool) → All BytePiece (cond z (feature_pieces n t) (vector_pieces n t))
     pick true =
-        all_more (piece_low FIRST (omega arith) (bytes_low 2 n))
+        all_more (piece_low first (omega arith) (bytes_low 2 n))
         (all_more (piece_low FRID (omega arith) (frid_low t))
         (all_more (piece_low FOID (omega arith) (bytes_low 8 t.foid))
         (lists_low t.lists feature_few b.lists)))
     pick false =
-        all_more (piece_low FIRST (omega arith) (bytes_low 2 n))
+        all_more (piece_low first (omega arith) (bytes_low 2 n))
         (all_more (piece_low VRID (omega arith) (vrid_low t))
         (lists_low t.lists vector_few b.lists))
 
@@ -209,11 +209,11 @@ chart_low : (c : Chart) → GoodChart c → ByteChart c → All (All BytePiece) 
 unfolding records_of dsid_pieces dspm_pieces
 chart_low c g b =
     all_more
-    (all_more (piece_low FIRST (omega arith) (bytes_low 2 1))
+    (all_more (piece_low first (omega arith) (bytes_low 2 1))
     (all_more (piece_low DSID (omega arith) (dsid_low c.header.dsid b.dsid))
     (all_more (piece_low DSSI (omega arith) (dssi_low c.header.aall c.header.nall (tally_in c.items) g.aall_low g.nall_low)) all_none)))
     (all_more
-    (all_more (piece_low FIRST (omega arith) (bytes_low 2 2)) (all_more (piece_low DSPM (omega arith) b.dspm) all_none))
+    (all_more (piece_low first (omega arith) (bytes_low 2 2)) (all_more (piece_low DSPM (omega arith) b.dspm) all_none))
     (objects_low 3 b.items))
 
 -- ---- the held form

@@ -4,7 +4,7 @@ use Prim.Native.Nat.{ℕ}
 use mathlib.Core.List.{List}
 use mathlib.Core.Path.{◌≡◌, sym, ap, ◌∙◌}
 use Rattle.answers.specs.Answer.{filed}
-use Rattle.reader.specs.Reader.{front_of, cell_fault, work_answer, cell_records}
+use Rattle.reader.specs.Reader.{front_of, cell_fault, work_answer, count_in}
 use Rattle.answers.specs.First.{first_answer}
 use Rattle.answers.specs.declared.refusal.Refusal.{Refusal}
 use Rattle.answers.specs.declared.answer.Answer.{Answer}
@@ -46,7 +46,7 @@ sound_verdict s n bytes opened fine so =
 judged_only : (s : List ℕ) (w : ℕ) → Bytes s → (judge_of s w).code ≡ 0 → Judgeable s w
 unfolding judge_of
 judged_only s w bytes h =
-    let n = cell_records s in
+    let n = count_in s in
     let o = opening_told 1 s (λ (k : ℕ). first_answer (work_answer w k) (filed 1 (cell_verdict s k))) h in
     let t = work_told w n (filed 1 (cell_verdict s n)) o.2 in
     let q = verdict_sound s n bytes o.0 (filed_told 1 (cell_verdict s n) t.2) in
@@ -54,7 +54,7 @@ judged_only s w bytes h =
 
 judged_all : (s : List ℕ) (w : ℕ) → Bytes s → Judgeable s w → (judge_of s w).code ≡ 0
 judged_all s w bytes j =
-    let n = cell_records s in
+    let n = count_in s in
     let r = j.readable in
     ap (λ (x : Answer). x.code) (judge_opened s n r.opened w ∙ work_on w n (filed 1 (cell_verdict s n)) j.work)
     ∙ filed_tested 1 (cell_verdict s n) (sound_verdict s n bytes r.opened r.fine j.sound)

@@ -1,15 +1,13 @@
--- "Number: .. bytes needed for 3 and 21", both ways. `judge_work`, `admit_work`, `apply_work`: framed files with too short a work area are refused with 3 and 16 bytes a
--- record. `admit_room`, `apply_room`: what would be accepted but for its output is refused with 21 and the length of the held form. `judge_needs_work` and those behind
--- it: whenever the code is 3, Number is the bytes that the work area needs, and whenever it is 21, those that the output needs. Assumes nothing.
+-- "Number: .. bytes needed for 3 and 21". `admit_work`, `apply_work`: framed files with too short a work area are refused with 3 and 16 bytes a record. `admit_room`,
+-- `apply_room`: what would be accepted but for its output is refused with 21 and the length of the held form. Assumes nothing.
 use Prim.Native.Nat.{ℕ, ◌+◌, ◌*◌, ◌≤◌, ◌<◌}
 use mathlib.Core.List.{List}
 use mathlib.Core.Path.{◌≡◌}
-use native.Mathlib.Omega.{arith}
 use lib.ListN.{length}
 use borrow.Author.Tests.{le-ltb, lt-ltb, eq-eqb}
 use Rattle.answers.specs.Answer.{answer, filed}
 use Rattle.answers.specs.First.{first_by}
-use Rattle.reader.specs.Reader.{front_of, cell_fault, update_fault, work_answer, fronted, records_in, cell_records}
+use Rattle.reader.specs.Reader.{front_of, cell_fault, update_fault, work_answer, fronted, records_in, count_in}
 use Rattle.reader.specs.declared.front.Front.TheVariants.{Count}
 use Rattle.held.specs.Held.{held_of}
 use Rattle.held.specs.Limits.{Fits}
@@ -20,8 +18,6 @@ use Rattle.verdict.specs.Verdict.{chart_topology}
 use Rattle.judging.specs.Judge.{cell_verdict, judge_of}
 use Rattle.loader.specs.Admit.{held_answer, admit_of, cell_chart}
 use Rattle.loader.specs.Apply.{apply_of, changes_in, file_change, updated_by}
-use Rattle.loader.proofs.ReadLaws.{judge_numbered, admit_numbered}
-use Rattle.loader.proofs.ApplyReads.{apply_numbered}
 use Rattle.demands.specs.Cell.{Bytes, Readable}
 use Rattle.demands.specs.Sound.{Sound}
 use Rattle.demands.specs.Update.{Allowed}
@@ -29,25 +25,25 @@ use Rattle.demands.proofs.SoundLaws.{sound_tested}
 use Rattle.demands.proofs.Judge.{sound_verdict}
 
 -- ---- 3
-pub judge_work : (cell : List ℕ) (w : ℕ) → front_of 1 cell ≡ Count (cell_records cell) → w < 16 * cell_records cell → judge_of cell w ≡ answer 3 0 0 (16 * cell_records cell) 0
+pub judge_work : (cell : List ℕ) (w : ℕ) → front_of 1 cell ≡ Count (count_in cell) → w < 16 * count_in cell → judge_of cell w ≡ answer 3 0 0 (16 * count_in cell) 0
 unfolding judge_of fronted work_answer first_by records_in
-judge_work cell w opened short = rw (opened, lt-ltb w (16 * cell_records cell) short)
+judge_work cell w opened short = rw (opened, lt-ltb w (16 * count_in cell) short)
 
-pub admit_work : (cell : List ℕ) (w o : ℕ) → front_of 1 cell ≡ Count (cell_records cell) → w < 16 * cell_records cell → admit_of cell w o ≡ answer 3 0 0 (16 * cell_records cell) 0
+pub admit_work : (cell : List ℕ) (w o : ℕ) → front_of 1 cell ≡ Count (count_in cell) → w < 16 * count_in cell → admit_of cell w o ≡ answer 3 0 0 (16 * count_in cell) 0
 unfolding admit_of fronted work_answer first_by records_in
-admit_work cell w o opened short = rw (opened, lt-ltb w (16 * cell_records cell) short)
+admit_work cell w o opened short = rw (opened, lt-ltb w (16 * count_in cell) short)
 
-pub apply_work : (cell file : List ℕ) (w o : ℕ) → front_of 1 cell ≡ Count (cell_records cell) → front_of 2 file ≡ Count (changes_in file)
-    → w < 16 * (cell_records cell + changes_in file) → apply_of cell file w o ≡ answer 3 0 0 (16 * (cell_records cell + changes_in file)) 0
+pub apply_work : (cell file : List ℕ) (w o : ℕ) → front_of 1 cell ≡ Count (count_in cell) → front_of 2 file ≡ Count (changes_in file)
+    → w < 16 * (count_in cell + changes_in file) → apply_of cell file w o ≡ answer 3 0 0 (16 * (count_in cell + changes_in file)) 0
 unfolding apply_of fronted work_answer first_by records_in
-apply_work cell file w o opened second short = rw (opened, second, lt-ltb w (16 * (cell_records cell + changes_in file)) short)
+apply_work cell file w o opened second short = rw (opened, second, lt-ltb w (16 * (count_in cell + changes_in file)) short)
 
 -- ---- 21
-pub admit_room : (cell : List ℕ) (w o : ℕ) → Bytes cell → Readable cell → Sound (cell_chart cell) → Fits (cell_chart cell) → 16 * cell_records cell ≤ w
+pub admit_room : (cell : List ℕ) (w o : ℕ) → Bytes cell → Readable cell → Sound (cell_chart cell) → Fits (cell_chart cell) → 16 * count_in cell ≤ w
     → o < length (held_of (cell_chart cell)) → admit_of cell w o ≡ answer 21 0 0 (length (held_of (cell_chart cell))) 0
 unfolding admit_of fronted work_answer first_by filed held_answer records_in
 admit_room cell w o bytes r so fit work short =
-    let n = cell_records cell in
+    let n = count_in cell in
     rw (
       r.opened,
       le-ltb w (16 * n) work,
@@ -56,11 +52,11 @@ admit_room cell w o bytes r so fit work short =
       lt-ltb o (length (held_of (cell_chart cell))) short,
     )
 
-pub apply_room : (cell file : List ℕ) (w o : ℕ) → Readable cell → Allowed (cell_chart cell) file → 16 * (cell_records cell + changes_in file) ≤ w
+pub apply_room : (cell file : List ℕ) (w o : ℕ) → Readable cell → Allowed (cell_chart cell) file → 16 * (count_in cell + changes_in file) ≤ w
     → o < length (held_of (updated_by (cell_chart cell) file)) → apply_of cell file w o ≡ answer 21 0 0 (length (held_of (updated_by (cell_chart cell) file))) 0
 unfolding apply_of fronted work_answer first_by filed placed_in held_answer records_in
 apply_room cell file w o r a work short =
-    let n = cell_records cell in
+    let n = count_in cell in
     let m = changes_in file in
     let made = updated_by (cell_chart cell) file in
     rw (
@@ -74,24 +70,3 @@ apply_room cell file w o r a work short =
       fits_tested made a.limits,
       lt-ltb o (length (held_of made)) short,
     )
-
--- ---- whenever the code is 3, on whatever files and areas, Number is the bytes that the work area needs; whenever it is 21, those that the output needs. Show's stand
--- in crates/show/proofs/ShowReads.antt
-pub judge_needs_work : (cell : List ℕ) (w : ℕ) → (judge_of cell w).code ≡ 3 → (judge_of cell w).number ≡ 16 * cell_records cell
-judge_needs_work cell w h = (judge_numbered cell w 0).work_needed_lem h
-
--- Judge has no output, and never asks for one
-pub judge_never_room : (cell : List ℕ) (w : ℕ) → (judge_of cell w).code ≡ 21 → ⊥
-judge_never_room cell w h = let zero = (judge_numbered cell w 0).room_needed h in let one = (judge_numbered cell w 1).room_needed h in omega arith
-
-pub admit_needs_work : (cell : List ℕ) (w o : ℕ) → (admit_of cell w o).code ≡ 3 → (admit_of cell w o).number ≡ 16 * cell_records cell
-admit_needs_work cell w o h = (admit_numbered cell w o).work_needed_lem h
-
-pub admit_needs_room : (cell : List ℕ) (w o : ℕ) → (admit_of cell w o).code ≡ 21 → (admit_of cell w o).number ≡ length (held_of (cell_chart cell))
-admit_needs_room cell w o h = (admit_numbered cell w o).room_needed h
-
-pub apply_needs_work : (cell file : List ℕ) (w o : ℕ) → (apply_of cell file w o).code ≡ 3 → (apply_of cell file w o).number ≡ 16 * (cell_records cell + changes_in file)
-apply_needs_work cell file w o h = (apply_numbered cell file w o).work_needed_lem h
-
-pub apply_needs_room : (cell file : List ℕ) (w o : ℕ) → (apply_of cell file w o).code ≡ 21 → (apply_of cell file w o).number ≡ length (held_of (updated_by (cell_chart cell) file))
-apply_needs_room cell file w o h = (apply_numbered cell file w o).room_needed h

@@ -15,7 +15,7 @@ use Rattle.readboth.proofs.CallLaws.{work_on}
 use Rattle.topology.specs.Topology.{topology_fault}
 use Rattle.judging.proofs.JudgeLaws.{judge_opened}
 use Rattle.loader.proofs.AdmitLaws.{admit_opened}
-use Rattle.reader.specs.Reader.{framed_front, front_of, records_in, cell_records, twice_refusal, counts_refusal, cell_fault}
+use Rattle.reader.specs.Reader.{framed_front, front_of, records_in, count_in, twice_refusal, counts_refusal, cell_fault}
 use Rattle.reader.specs.declared.front.Front.TheVariants.{Count}
 use Rattle.held.specs.Chart.{Chart, chart_of}
 use Rattle.held.specs.Held.{held_of}
@@ -37,7 +37,7 @@ module _ (c : Chart) (good : Good c) where
   unfolding front_of framed_front
   held_opened = rw (le-ltb 5242880 (length (held_of c)) good.limits.short, there.framed)
 
-  pub held_count : cell_records (held_of c) ≡ record_count c
+  pub held_count : count_in (held_of c) ≡ record_count c
   unfolding records_in
   held_count = ap records_in held_opened
 

@@ -24,8 +24,7 @@ use Rattle.changes.specs.Rules.{All}
 use Rattle.changes.specs.Rules.All.{all_none, all_more}
 use Rattle.changes.proofs.AmendLaws.{no_code}
 use Rattle.verdict.specs.Verdict.{chart_topology}
-use Rattle.verdict.specs.Verdict.{comf_of}
-use Rattle.demands.specs.Sound.{Any, Named, Related, SoundAmong, Sound}
+use Rattle.demands.specs.Sound.{Any, Named, Related, SoundAmong, comf_of, Sound}
 use Rattle.demands.specs.Sound.Any.{any_here, any_later}
 use Rattle.answers.specs.Answer.{refusal}
 use Rattle.answers.specs.declared.refusal.Refusal.{Refusal}

@@ -2,7 +2,7 @@
 use Rattle.std.specs.Prelude.{ℕ, ◌*◌, ◌≤◌, List}
 use Rattle.answers.specs.Codes.{work_each}
 use Rattle.held.specs.Limits.{Fits}
-use Rattle.reader.specs.Reader.{cell_records}
+use Rattle.reader.specs.Reader.{count_in}
 use Rattle.loader.specs.Admit.{cell_chart}
 use Rattle.demands.specs.Cell.{Readable, Room}
 use Rattle.demands.specs.Sound.{Sound}
@@ -11,7 +11,7 @@ use Rattle.demands.specs.Sound.{Sound}
 pub record Judgeable (s : List ℕ) (w : ℕ) : Type 0 where
   pub readable : Readable s
   pub sound : Sound (cell_chart s)
-  pub work : work_each * cell_records s ≤ w
+  pub work : work_each * count_in s ≤ w
 
 -- ---- Admit, with w bytes of work and o of output: none of the codes 1 to 8 and 17 to 21
 pub record Admissible (s : List ℕ) (w o : ℕ) : Type 0 where

@@ -7,7 +7,6 @@ use Rattle.vectorshape.specs.Shape.{shape_good}
 use Rattle.ring.specs.Ring.{node_in, rings_good}
 use Rattle.items.specs.Item.{Item, item_name}
 use Rattle.held.specs.Chart.{Chart}
-use Rattle.verdict.specs.Verdict.{comf_of}
 use Rattle.changes.specs.Rules.{All}
 
 -- one of a list keeps a rule
@@ -31,6 +30,10 @@ pub record SoundAmong (comf : ℕ) (all : List Item) (t : Item) : Type 0 where
   pub related : t.rcnm ≡ 100 → All (Related all) (t.lists FFPT)
   pub spatial : t.rcnm ≡ 100 → All (Named all) (t.lists FSPT)
   pub rings : t.rcnm ≡ 100 → t.prim ≡ 3 → rings_good (node_in all) (t.lists FSPT) ≡ true
+
+-- COMF is the four bytes at 16 of DSPM
+abbrev pub comf_of : Chart → ℕ
+comf_of c = num_at c.header.dspm 16 4
 
 -- ---- the chart has none of the codes 17 to 19
 pub record Sound (c : Chart) : Type 0 where

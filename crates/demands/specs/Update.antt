@@ -2,7 +2,7 @@
 -- `updated_by`. Assumes nothing.
 use Rattle.std.specs.Prelude.{ℕ, ◌+◌, ◌*◌, ◌≤◌, List, ◌≡◌, length}
 use Rattle.answers.specs.Codes.{work_each}
-use Rattle.reader.specs.Reader.{front_of, cell_records, update_fault}
+use Rattle.reader.specs.Reader.{front_of, count_in, update_fault}
 use Rattle.reader.specs.declared.front.Front.TheVariants.{Count}
 use Rattle.held.specs.Chart.{Chart}
 use Rattle.held.specs.Held.{held_of}
@@ -27,5 +27,5 @@ pub record Allowed (c : Chart) (file : List ℕ) : Type 0 where
 
 -- the areas suffice: w bytes of work, "16 bytes a record of the files given", and o of output
 pub record Areas (cell file : List ℕ) (w o : ℕ) : Type 0 where
-  pub work : work_each * (cell_records cell + changes_in file) ≤ w
+  pub work : work_each * (count_in cell + changes_in file) ≤ w
   pub output : length (held_of (updated_by (cell_chart cell) file)) ≤ o

@@ -12,22 +12,21 @@ use Rattle.loader.specs.Apply.{apply_of, apply_area, file_change, updated_by}
 use Rattle.demands.specs.Cell.{Readable}
 
 -- "the bytes an accepted Admit wrote (as many as Number says)", and those of Apply, with w bytes of work and this output area lent
-unfoldable pub admit_wrote : List ℕ → ℕ → List ℕ → List ℕ
-admit_wrote cell w out = take (admit_of cell w (length out)).number (admit_area cell w out)
+abbrev pub admitted_bytes : List ℕ → ℕ → List ℕ → List ℕ
+admitted_bytes cell w out = take (admit_of cell w (length out)).number (admit_area cell w out)
 
-unfoldable pub apply_wrote : List ℕ → List ℕ → ℕ → List ℕ → List ℕ
-apply_wrote cell file w out = take (apply_of cell file w (length out)).number (apply_area cell file w out)
+abbrev pub applied_bytes : List ℕ → List ℕ → ℕ → List ℕ → List ℕ
+applied_bytes cell file w out = take (apply_of cell file w (length out)).number (apply_area cell file w out)
 
--- the owner's demand 2: "A written re-issue reads back to the same records.": it is a readable cell and means this chart
+-- "reads back": it is a readable cell and means this chart
 pub record ReadsAs (bytes : List ℕ) (c : Chart) : Type 0 where
   pub readable : Readable bytes
   pub chart : cell_chart bytes ≡ c
 
 -- ---- what was written is what the file makes of the cell
-pub record WorkedIn (cell file written : List ℕ) : Type 0 where
+pub record Applied (cell file written : List ℕ) : Type 0 where
   pub reads : ReadsAs written (updated_by (cell_chart cell) file)
-  -- the owner's demand 2: "and vector or feature records it doesn't name keep all their values but the running number.": the objects that no record of the file names,
-  -- in their order, and each by its name
+  -- "records it doesn't name keep all their values but the running number": the objects that no record of the file names, in their order, and each by its name
   pub unnamed_stay : unnamed by_amendment (file_change file).amendments (cell_chart written).items ≡ unnamed by_amendment (file_change file).amendments (cell_chart cell).items
   pub others_stay : (n : ℕ) → All (λ (a : Amendment). n ≡ item_name a.object → ⊥) (file_change file).amendments
       → held_by (cell_chart written).items n ≡ held_by (cell_chart cell).items n

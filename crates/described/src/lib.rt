@@ -5,7 +5,7 @@ ghost use Rattle.std.specs.Prelude.{◌≡◌, ◌-◌, length};
 ghost use Rattle.table.specs.Table.{kind_count};
 ghost use Rattle.iso8211.specs.Field.{count_at};
 ghost use Rattle.iso8211.specs.Premises.{HeadOf, RecordIn};
-ghost use Rattle.declarations.specs.Described.{described_from, described_of, no_marks};
+ghost use Rattle.declarations.specs.Described.{described_from, described_of, none};
 ghost use Rattle.declarations.specs.Premises.{marks_of};
 
 use declarations::field::describes_at;
@@ -16,7 +16,7 @@ use table::{kind_of, kinds, tags};
 // The fields behind 0000 and 0001: tags of the table, each at most once and as the table has it.
 fn rest(s: &[u8], head: Head) -> Described
     requires { RecordIn s.now 0 × HeadOf s.now 0 head }
-    ensures { (marks_of result ≡ described_from (count_at s.now 0 - 2) s.now 2 no_marks) × (length result.marks ≡ kind_count) }
+    ensures { (marks_of result ≡ described_from (count_at s.now 0 - 2) s.now 2 none) × (length result.marks ≡ kind_count) }
 {
     let count = head.count;
     let mut marks = [0u8; kinds::COUNT];

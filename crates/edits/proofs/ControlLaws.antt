@@ -15,10 +15,10 @@ use Rattle.entries.specs.Entries.{Each}
 use Rattle.entries.specs.Entries.Each.{each_none, each_more}
 use Rattle.entries.specs.Rules.{all_of}
 use Rattle.entries.proofs.RulesLaws.{all_append}
-use Rattle.edits.specs.Control.{Control, gone, come, allowed, ControlRules, edited, edited_by}
+use Rattle.edits.specs.Control.{Control, gone, come, allowed, Allowed, edited, edited_by}
 
 -- ---- the rule and the numbers say the same
-pub allowed_numbers : (c : Control) (held brought : ℕ) → allowed c held brought ≡ true → ControlRules c held brought
+pub allowed_numbers : (c : Control) (held brought : ℕ) → allowed c held brought ≡ true → Allowed c held brought
 unfolding allowed
 allowed_numbers c held brought h =
     let within = leb (c.index + gone c) (held + 1) in
@@ -32,7 +32,7 @@ allowed_numbers c held brought h =
       within = leb-true (c.index + gone c) (held + 1) q.2;
     }
 
-pub allowed_told : {c : Control} {held brought : ℕ} → ControlRules c held brought → allowed c held brought ≡ true
+pub allowed_told : {c : Control} {held brought : ℕ} → Allowed c held brought → allowed c held brought ≡ true
 unfolding allowed
 allowed_told {c} {held} {brought} a =
     rw (le-leb 1 c.instruction a.known.0, le-leb c.instruction 3 a.known.1, le-leb 1 c.index a.first)
@@ -77,7 +77,7 @@ unfolding edited_by
 edited_by_none c = edited_none _ _
 
 -- how long the list becomes
-pub edited_by_length : {E : Type 0} {c : Control} (held brought : List E) → ControlRules c (length held) (length brought)
+pub edited_by_length : {E : Type 0} {c : Control} (held brought : List E) → Allowed c (length held) (length brought)
     → length (edited_by c held brought) + gone c ≡ length held + come c
 unfolding edited_by
 edited_by_length {E} {c} held brought a =

@@ -22,7 +22,7 @@ allowed c held brought =
     leb 1 c.instruction && (leb c.instruction 3 && (leb 1 c.index && (leb 1 c.count && (eqb brought (come c) && leb (c.index + gone c) (held + 1)))))
 
 -- the same in numbers, for proofs
-pub record ControlRules (c : Control) (held brought : ℕ) : Type 0 where
+pub record Allowed (c : Control) (held brought : ℕ) : Type 0 where
   pub known : (1 ≤ c.instruction) × (c.instruction ≤ 3)
   pub first : 1 ≤ c.index
   pub some : 1 ≤ c.count

@@ -11,7 +11,7 @@ use borrow.Author.Tests.{leb-true, eqb-true, not-false}
 use Rattle.octets.proofs.Cases.{eq_or_ne}
 use Rattle.octets.proofs.Tests.{told_yes, all3}
 use Rattle.octets.specs.Number.{byte_at}
-use Rattle.values.specs.Fault.{fault_at, first_fault}
+use Rattle.values.specs.Fault.{fault_at, first}
 use Rattle.values.specs.Rule.{rcid_good, rver_good, ruin_good}
 use Rattle.values.specs.Vrid.{is_vector, vrid_fault}
 use Rattle.fieldfine.specs.Told.{groups_good, AttributesTold, PointersTold}
@@ -83,7 +83,7 @@ vrid_no = record { none = λ e. absurd (let z : ◌≡◌ {A = ℕ} 0 1 = cc in 
 
 pub vrid_yes : (update : Bool) (c : List ℕ) (x y z r : Bool) → x ≡ is_vector (byte_at c 0) → not x ≡ false → y ≡ rcid_good c 1 → not y ≡ false → z ≡ rver_good c 5 → not z ≡ false
     → r ≡ ruin_good update (byte_at c 7) → NoFault (vrid_fault update c) r
-unfolding vrid_fault first_fault fault_at
+unfolding vrid_fault first fault_at
 vrid_yes update c x y z r a xs b ys d zs e =
     record { none = λ h. rw (told_yes x _ a xs, told_yes y _ b ys, told_yes z _ d zs, ← e, h) }
 

@@ -12,7 +12,7 @@ use Rattle.octets.specs.Number.{byte_at}
 use Rattle.octets.proofs.Cases.{le_or_lt, eq_or_ne}
 use Rattle.formats.specs.declared.Taken.{Taken}
 use Rattle.formats.specs.declared.Formats.{Formats}
-use Rattle.formats.specs.Formats.{count_at, primitive_at, Form, form, broken, single, repeated, joined, followed, form_at, items_from, list_at, written_at}
+use Rattle.formats.specs.Formats.{count_at, primitive_at, Form, form, broken, single, repeated, joined, followed, item_at, items_from, list_at, written_at}
 use Rattle.formats.specs.Premises.{Written}
 use Rattle.formats.proofs.FormatsLaws.{items_long, list_zero, list_more, items_next, items_none}
 
@@ -41,8 +41,8 @@ some_single p =
     ⊎_elim (λ (h : p.value ≡ 0). rw (eq-eqb p.value 0 h) some_broken)
     (λ (h : p.value ≡ 0 → ⊥). rw (ne_eqb p.value 0 h) (record { one = inr (omega arith) })) (eq_or_ne p.value 0)
 
-some_item : (inner : Form) (s : List ℕ) (i : ℕ) → Some inner → Some (form_at inner s i)
-unfolding form_at
+some_item : (inner : Form) (s : List ℕ) (i : ℕ) → Some inner → Some (item_at inner s i)
+unfolding item_at
 some_item inner s i h =
     ⊎_elim (λ (e : byte_at s i ≡ 40). rw (eq-eqb (byte_at s i) 40 e) h)
     (λ (e : byte_at s i ≡ 40 → ⊥). rw (ne_eqb (byte_at s i) 40 e) (some_single (primitive_at s i))) (eq_or_ne (byte_at s i) 40)
@@ -101,11 +101,11 @@ followed_sound further s f one on =
 
 -- what the item at i makes of what is led
 abbrev next_led : (List ℕ → ℕ → Form) → List ℕ → ℕ → List ℕ → Form
-next_led inner s i led = joined led (count_at s i).value (form_at (inner s (count_at s i).next) s (count_at s i).next)
+next_led inner s i led = joined led (count_at s i).value (item_at (inner s (count_at s i).next) s (count_at s i).next)
 
 module _ (inner : List ℕ → ℕ → Form) (good : (s : List ℕ) (i : ℕ) → Sound (inner s i)) where
   next_grown : (s : List ℕ) (i : ℕ) (led : List ℕ) → Grown led (next_led inner s i led)
-  next_grown s i led = grown led (count_at s i).value (form_at (inner s (count_at s i).next) s (count_at s i).next)
+  next_grown s i led = grown led (count_at s i).value (item_at (inner s (count_at s i).next) s (count_at s i).next)
       (some_item (inner s (count_at s i).next) s (count_at s i).next (sound_some (inner s (count_at s i).next) (good s (count_at s i).next)))
 
   sound_items : (n : ℕ) (s : List ℕ) (i : ℕ) (led : List ℕ) → Sound (items_from inner n s i led)

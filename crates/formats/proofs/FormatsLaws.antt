@@ -20,7 +20,7 @@ use Rattle.fieldparts.proofs.SameLaws.{same_unlike, turn_other, turn_alike, same
 use Rattle.formats.specs.declared.Taken.{Taken}
 use Rattle.formats.specs.declared.Formats.{Formats}
 use Rattle.formats.specs.Formats.{digit_at, taken, short_from, short_at, count_at, is_letter, closed, sized_at, counts, binary_at, primitive_at, Form, form, broken, single}
-use Rattle.formats.specs.Formats.{repeated, joined, followed, form_at, items_from, list_at}
+use Rattle.formats.specs.Formats.{repeated, joined, followed, item_at, items_from, list_at}
 use Rattle.formats.specs.Premises.{Seen, Digit, Short, Primitive, forms_of, nothing, Filled, Written}
 
 -- ---- byte and digit
@@ -304,13 +304,13 @@ join_all {led} {part} {r} times one two h some few z told =
     rw (ne_eqb part.end 0 h, le-leb 1 times some, le-leb times 99 few, items_long one, items_long two, le-leb (led.count + times * part.count) 32 z) told
 
 -- ---- item
-pub item_list : {s : List ℕ} {at b : ℕ} {inner : Formats} → Seen s at b → b ≡ 40 → Filled inner → inner.end ≤ length s → Written (form_at (forms_of inner) s at) (length s) inner
-unfolding form_at
+pub item_list : {s : List ℕ} {at b : ℕ} {inner : Formats} → Seen s at b → b ≡ 40 → Filled inner → inner.end ≤ length s → Written (item_at (forms_of inner) s at) (length s) inner
+unfolding item_at
 item_list {s} {at} {b} {inner} seen h fills within = rw (← seen.is, eq-eqb b 40 h) (record { is = refl; fills = fills; within = within })
 
 pub item_alone : {s : List ℕ} {at b : ℕ} (inner : Formats) {r : Formats} → Seen s at b → (b ≡ 40 → ⊥) → Written (single (primitive_at s at)) (length s) r
-    → Written (form_at (forms_of inner) s at) (length s) r
-unfolding form_at
+    → Written (item_at (forms_of inner) s at) (length s) r
+unfolding item_at
 item_alone {s} {at} {b} inner {r} seen h told = rw (← seen.is, ne_eqb b 40 h) told
 
 -- ---- list
@@ -326,7 +326,7 @@ above_zero : (n : ℕ) → (n ≡ 0 → ⊥) → n ≡ suc (n - 1)
 above_zero n h = omega arith
 
 pub items_next : (inner : List ℕ → ℕ → Form) (n m : ℕ) (s : List ℕ) (i : ℕ) (led : List ℕ) → n ≡ suc m
-    → items_from inner n s i led ≡ followed (items_from inner m s) s (joined led (count_at s i).value (form_at (inner s (count_at s i).next) s (count_at s i).next))
+    → items_from inner n s i led ≡ followed (items_from inner m s) s (joined led (count_at s i).value (item_at (inner s (count_at s i).next) s (count_at s i).next))
 unfolding items_from
 items_next inner n m s i led e = rw e
 
@@ -363,7 +363,7 @@ list_over {s} {at} {levels} {from} {turn} {led} {r} here past e =
 -- a turn: the item is read, and joined to what is led
 module _ {s : List ℕ} {at levels from turn : ℕ} {led inner part next : Formats} {times : Taken}
     (here : Listing s at levels led from turn) (more : turn < 32) (count : Short (count_at s from) s from times)
-    (inside : Written (list_at (levels - 1) s times.next) (length s) inner) (item : Written (form_at (forms_of inner) s times.next) (length s) part)
+    (inside : Written (list_at (levels - 1) s times.next) (length s) inner) (item : Written (item_at (forms_of inner) s times.next) (length s) part)
     (join : Written (joined (forms_of led).items times.value (forms_of part)) part.end next) where
   turned : list_at levels s at ≡ followed (items_from (list_at (levels - 1)) (32 - (turn + 1)) s) s (forms_of next)
   turned =

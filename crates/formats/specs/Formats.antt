@@ -89,14 +89,14 @@ followed further s led =
     (cond (eqb (byte_at s led.end) 44) (further (led.end + 1) led.items) broken))
 
 -- "an item is a primitive or a bracketed list again": what stands in s at i, given the list that would start there
-unfoldable pub form_at : Form → List ℕ → ℕ → Form
-form_at inner s i = cond (eqb (byte_at s i) 40) inner (single (primitive_at s i))
+unfoldable pub item_at : Form → List ℕ → ℕ → Form
+item_at inner s i = cond (eqb (byte_at s i) 40) inner (single (primitive_at s i))
 
 -- at most n items from i on, behind what is led, up to the closing bracket; `inner` says what list starts at an index
 unfoldable pub items_from : (List ℕ → ℕ → Form) → ℕ → List ℕ → ℕ → List ℕ → Form
 items_from inner zero s i led = broken
 items_from inner (suc n) s i led =
-    followed (items_from inner n s) s (joined led (count_at s i).value (form_at (inner s (count_at s i).next) s (count_at s i).next))
+    followed (items_from inner n s) s (joined led (count_at s i).value (item_at (inner s (count_at s i).next) s (count_at s i).next))
 
 -- "At most 4 levels of brackets": the list that starts in s at i, with so many levels left. Each item has a primitive, so more than 32 items are never good
 unfoldable pub list_at : ℕ → List ℕ → ℕ → Form

@@ -1,8 +1,8 @@
 // The format list of a field of record 0, written out: brackets opened, counts carried out, and the
-// comparison of two such lists. It takes a byte as a number from `octets` and knows nothing of charts.
+// comparison of two such lists. It takes bytes and digits from `octets` and knows nothing of charts.
 ghost use Rattle.std.specs.Prelude.{◌+◌, ◌*◌, ◌≤◌, ◌<◌, ◌≡◌, ◌++◌, length, take};
 ghost use Rattle.fieldparts.specs.Same.{same_list};
-ghost use Rattle.formats.specs.Formats.{short_at, count_at, is_letter, counts, sized_at, binary_at, primitive_at, form, single, repeated, joined, form_at, list_at, written_at};
+ghost use Rattle.formats.specs.Formats.{short_at, count_at, is_letter, counts, sized_at, binary_at, primitive_at, form, single, repeated, joined, item_at, list_at, written_at};
 ghost use Rattle.formats.specs.Premises.{Seen, Digit, Short, Primitive, Filled, Written, forms_of, nothing};
 
 use octets::number::wide;
@@ -258,7 +258,7 @@ fn join(led: Formats, times: u32, part: Formats) -> Formats
 // The item at `at`: the list that was written out there, where a bracket opens it, else a primitive.
 fn item(s: &[u8], at: usize, inner: Formats) -> Formats
     requires { (Filled inner) × (inner.end ≤ length s.now) }
-    ensures { Written (form_at (forms_of inner) s.now at) (length s.now) result }
+    ensures { Written (item_at (forms_of inner) s.now at) (length s.now) result }
 {
     if byte(s, at) == 40 {
         return inner;

@@ -4,7 +4,7 @@ use Rattle.octets.specs.Number.{bytes_of}
 use Rattle.iso8211.specs.Field.{count_at, field_at}
 use Rattle.iso8211.specs.Premises.{RecordIn}
 use Rattle.iso8211.specs.declared.field.Field.{Field}
-use Rattle.table.specs.Table.{FIRST, DSID, DSSI, DSPM}
+use Rattle.table.specs.Table.{first, DSID, DSSI, DSPM}
 use Rattle.layout.specs.Record.{content_at}
 use Rattle.layout.specs.General.{aall_at, nall_at}
 use Rattle.counted.specs.declared.counts.Tally.{Tally}
@@ -16,10 +16,10 @@ use Rattle.header.specs.Dssi.{dssi_bytes}
 use Rattle.header.specs.Known.{Known}
 
 abbrev pub dsid_fields : List ℕ → List ℕ → List Piece
-dsid_fields d v = piece FIRST (bytes_of 2 1) ∷ piece DSID d ∷ piece DSSI v ∷ []
+dsid_fields d v = piece first (bytes_of 2 1) ∷ piece DSID d ∷ piece DSSI v ∷ []
 
 abbrev pub dspm_fields : List ℕ → List Piece
-dspm_fields d = piece FIRST (bytes_of 2 2) ∷ piece DSPM d ∷ []
+dspm_fields d = piece first (bytes_of 2 2) ∷ piece DSPM d ∷ []
 
 -- what is written for the DSID of the record at `at`, and for its DSSI with these counts
 abbrev pub dsid_in : List ℕ → ℕ → List ℕ

@@ -82,8 +82,8 @@ sted_moved : {s t : List ℕ} (i j : ℕ) → Moved s i t j → sted_good s i �
 unfolding sted_good
 sted_moved i j m = rw (moved_first m, moved_byte 1 m, moved_byte 2 m, moved_byte 3 m)
 
-fine_first : (a b : ℕ) → a ≡ 0 → b ≡ 0 → fault.first_fault a b ≡ 0
-unfolding fault.first_fault
+fine_first : (a b : ℕ) → a ≡ 0 → b ≡ 0 → fault.first a b ≡ 0
+unfolding fault.first
 fine_first a b e f = rw (e, f)
 
 fine_at : (i : ℕ) (good : Bool) → good ≡ true → fault_at i good ≡ 0

@@ -74,5 +74,5 @@ dssi_read aall nall t few =
     }
 
 pub dssi_fine : (v : List ℕ) (aall nall : ℕ) (t : Tally) → DssiRead v aall nall t → aall ≤ 1 → nall ≤ 1 → dssi_fault false v ≡ 0
-unfolding dssi_fault none_good fault_at fault.first_fault
+unfolding dssi_fault none_good fault_at fault.first
 dssi_fine v aall nall t r a b = rw (r.two_is, r.aall_is, r.nall_is, le-leb aall 1 a, le-leb nall 1 b, r.nocr_is, r.nofa_is)

@@ -14,11 +14,11 @@ use Rattle.iso8211.specs.Directory.{tag_at, row_at, rows}
 use Rattle.iso8211.specs.Record.{field_good, in_row, body_good, record_good, end_of}
 use Rattle.iso8211.specs.Field.{count_at, directory_at, field_at}
 use Rattle.formats.specs.Formats as formats
-use Rattle.formats.specs.Formats.{digit_at, short_from, short_at, is_letter, closed, sized_at, counts, binary_at, primitive_at, single, repeated, joined, followed, form_at, items_from}
+use Rattle.formats.specs.Formats.{digit_at, short_from, short_at, is_letter, closed, sized_at, counts, binary_at, primitive_at, single, repeated, joined, followed, item_at, items_from}
 use Rattle.formats.specs.Formats.{list_at, written_at}
 use Rattle.fieldparts.specs.Descriptive.{parts_of, parts_at, separator_at, separator_in}
 use Rattle.fieldparts.specs.Same.{same_list}
-use Rattle.table.specs.Table.{row_of, table, tag_of, kind_of, among, as_number, FIRST}
+use Rattle.table.specs.Table.{row_of, table, tag_of, kind_of, among, as_number, first}
 use Rattle.table.specs.Text.{bytes}
 use Rattle.declarations.specs.Described.{labels_in, formats_in, same_formats, describes, described_from, described_of}
 use Rattle.records.specs.Written.{tag_bytes, body_of, rows_for, longest, farthest, row_bytes, rows_bytes, base_for}
@@ -45,14 +45,14 @@ first_marks = 1 ∷ 1 ∷ 1 ∷ 1 ∷ 1 ∷ 0 ∷ 1 ∷ 0 ∷ 1 ∷ 1 ∷ 1 ∷ 
 literal_described : (t : List ℕ) → described_of (first_bytes ++ t) ≡ first_marks
 unfolding first_bytes digits_from number_at is_digit tag_at row_at rows count_at directory_at field_at described_of described_from describes labels_in formats_in same_formats parts_of
     parts_at separator_at separator_in same_list digit_at short_from short_at formats.count_at is_letter closed sized_at counts binary_at primitive_at single repeated joined followed
-    form_at items_from list_at written_at row_of table tag_of kind_of among as_number bytes
+    item_at items_from list_at written_at row_of table tag_of kind_of among as_number bytes
 literal_described t = refl
 
-declared_first_lem : (k : ℕ) → k ≤ FIRST → (row_of k).control ≡ false → get_or first_marks k 0 ≡ 1
+declared_first_lem : (k : ℕ) → k ≤ first → (row_of k).control ≡ false → get_or first_marks k 0 ≡ 1
 unfolding all_below_lem row_of table
 declared_first_lem k few free =
     eqb-true (get_or first_marks k 0) 1
-    (or_free (row_of k).control (eqb (get_or first_marks k 0) 1) (all_below_lem (λ j. (row_of j).control || eqb (get_or first_marks j 0) 1) (suc FIRST) k refl (omega arith)) free)
+    (or_free (row_of k).control (eqb (get_or first_marks k 0) 1) (all_below_lem (λ j. (row_of j).control || eqb (get_or first_marks j 0) 1) (suc first) k refl (omega arith)) free)
   where
     or_free : (a b : Bool) → (a || b) ≡ true → a ≡ false → b ≡ true
     or_free false b h e = h

@@ -1,7 +1,6 @@
 -- DSID as a value: what it says, and how the held form writes it. Assumes nothing.
 use Rattle.std.specs.Prelude.{ℕ, ◌+◌, List, ◌∷◌, ◌++◌, take, drop}
 use Rattle.octets.specs.Digits.{digits_of, fewest}
-use Rattle.table.specs.Offsets.{DSID_EDTN, UPDN_UADT, UPDN_ISDT, UPDN_STED}
 use Rattle.dataset.specs.Dsid.{updn_end}
 use Rattle.layout.specs.General.{edition_in, number_in}
 
@@ -18,10 +17,9 @@ abbrev pub dsid : List ℕ → ℕ → ℕ → List ℕ → List ℕ → List �
 dsid named edition number applied issued rest = record { named = named; edition = edition; number = number; applied = applied; issued = issued; rest = rest }
 
 -- ---- read
--- what a DSID says
+-- what a DSID says; DSNM has twelve bytes, from byte 7 on
 unfoldable pub dsid_of : List ℕ → Dsid
-dsid_of d =
-    dsid (take DSID_EDTN d) (edition_in d) (number_in d) (take 8 (drop (updn_end d + UPDN_UADT) d)) (take 8 (drop (updn_end d + UPDN_ISDT) d)) (drop (updn_end d + UPDN_STED) d)
+dsid_of d = dsid (take 20 d) (edition_in d) (number_in d) (take 8 (drop (updn_end d + 1) d)) (take 8 (drop (updn_end d + 9) d)) (drop (updn_end d + 17) d)
 
 -- ---- written
 -- "without leading zeros"

@@ -3,7 +3,7 @@
 use Rattle.std.specs.Prelude.{ℕ, ◌+◌, List, [], ◌∷◌, ◌++◌, length}
 use Prim.Native.String.{String}
 use Rattle.octets.specs.Digits.{digits_of}
-use Rattle.table.specs.Table.{row_of, tag_of, FIRST, DSID, DSSI, DSPM, VRID, ATTV, VRPT, SG2D, SG3D, FRID, FOID, ATTF, NATF, FFPT, FSPT}
+use Rattle.table.specs.Table.{row_of, tag_of, first, DSID, DSSI, DSPM, VRID, ATTV, VRPT, SG2D, SG3D, FRID, FOID, ATTF, NATF, FFPT, FSPT}
 use Rattle.table.specs.Text.{bytes}
 use Rattle.records.specs.Pieces.{Piece}
 use Rattle.records.specs.Written.{body_of, rows_for, rows_bytes, length_size, position_size, base_for}
@@ -26,7 +26,7 @@ tree = record {
 unfoldable pub first_pieces : List Piece
 first_pieces =
     tree
-    ∷ declares FIRST "0500;&   " "ISO 8211 Record Identifier"
+    ∷ declares first "0500;&   " "ISO 8211 Record Identifier"
     ∷ declares DSID "1600;&   " "Data set identification field"
     ∷ declares DSSI "1600;&   " "Data set structure information field"
     ∷ declares DSPM "1600;&   " "Data set parameter field"

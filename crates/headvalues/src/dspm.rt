@@ -6,7 +6,7 @@ ghost use Rattle.headvalues.specs.Premises.{DspmLaid};
 use crate::text::{text_end, text_good_in};
 use octets::number::get4;
 use table::offsets;
-use values::fault::{fault_at, first_fault};
+use values::fault::{fault_at, first};
 use values::rule::{rcid_good, within};
 
 // "COMF 1 to 10,000,000".
@@ -27,7 +27,7 @@ fn datum_fault(f: &[u8]) -> usize
     let rcnm = fault_at(0, f[0] == 20);
     let rcid = fault_at(offsets::RCID, rcid_good(f, offsets::RCID));
     let hdat = fault_at(offsets::DSPM_HDAT, f[offsets::DSPM_HDAT] == 2);
-    first_fault(rcnm, first_fault(rcid, hdat))
+    first(rcnm, first(rcid, hdat))
 }
 
 // The fault among DUNI, HUNI, PUNI and COUN.
@@ -39,7 +39,7 @@ fn units_fault(f: &[u8]) -> usize
     let huni = fault_at(offsets::DSPM_HUNI, f[offsets::DSPM_HUNI] == 1);
     let puni = fault_at(offsets::DSPM_PUNI, f[offsets::DSPM_PUNI] == 1);
     let coun = fault_at(offsets::DSPM_COUN, f[offsets::DSPM_COUN] == 1);
-    first_fault(duni, first_fault(huni, first_fault(puni, coun)))
+    first(duni, first(huni, first(puni, coun)))
 }
 
 // The fault among COMF, SOMF and COMT.
@@ -61,7 +61,7 @@ fn factors_fault(f: &[u8]) -> usize
             false,
         ),
     );
-    first_fault(comf, first_fault(somf, comt))
+    first(comf, first(somf, comt))
 }
 
 // The fault of a DSPM.
@@ -72,5 +72,5 @@ pub fn dspm_fault(f: &[u8]) -> usize
     let datum = datum_fault(f);
     let units = units_fault(f);
     let factors = factors_fault(f);
-    first_fault(datum, first_fault(units, factors))
+    first(datum, first(units, factors))
 }

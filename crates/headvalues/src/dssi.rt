@@ -4,7 +4,7 @@ ghost use Rattle.headvalues.specs.Dssi.{none_good, dssi_fault};
 
 use octets::number::get4;
 use table::offsets;
-use values::fault::{fault_at, first_fault};
+use values::fault::{fault_at, first};
 
 // Whether a count may stand: in a cell only 0.
 fn none_good(f: &[u8], at: usize, update: bool) -> bool
@@ -27,8 +27,5 @@ pub fn dssi_fault(f: &[u8], update: bool) -> usize
     let nall = fault_at(offsets::DSSI_NALL, f[offsets::DSSI_NALL] <= 1);
     let nocr = fault_at(offsets::DSSI_NOCR, none_good(f, offsets::DSSI_NOCR, update));
     let nofa = fault_at(offsets::DSSI_NOFA, none_good(f, offsets::DSSI_NOFA, update));
-    first_fault(
-        dstr,
-        first_fault(aall, first_fault(nall, first_fault(nocr, nofa))),
-    )
+    first(dstr, first(aall, first(nall, first(nocr, nofa))))
 }

@@ -9,7 +9,7 @@ use lib.ListN.{length}
 use lib.Dec.{eqb, ltb}
 use borrow.Author.Tests.{eq-eqb, ne_eqb}
 use Rattle.iso8211.specs.Record.{end_of}
-use Rattle.table.specs.Table.{row_of, table, tag_of, kind_of, among, as_number, FIRST}
+use Rattle.table.specs.Table.{row_of, table, tag_of, kind_of, among, as_number, first}
 use Rattle.table.specs.Text.{bytes}
 use Rattle.values.specs.Vrid.{is_vector}
 use Rattle.layout.specs.Layout.{layout_fault}
@@ -78,11 +78,11 @@ feature_name t f = rw f.class (omega arith)
 
 vector_kind : (s : List ℕ) (at n : ℕ) (t : Item) → pieces_at s at ≡ vector_pieces n t → is_feature s at ≡ false
 unfolding is_feature vector_pieces kind_of among tag_of row_of table as_number bytes
-vector_kind s at n t is = rw (tag_seen s at (vector_pieces n t) 1 (piece FIRST []) is (omega arith))
+vector_kind s at n t is = rw (tag_seen s at (vector_pieces n t) 1 (piece first []) is (omega arith))
 
 feature_kind : (s : List ℕ) (at n : ℕ) (t : Item) → pieces_at s at ≡ feature_pieces n t → is_feature s at ≡ true
 unfolding is_feature feature_pieces kind_of among tag_of row_of table as_number bytes
-feature_kind s at n t is = rw (tag_seen s at (feature_pieces n t) 1 (piece FIRST []) is (omega arith))
+feature_kind s at n t is = rw (tag_seen s at (feature_pieces n t) 1 (piece first []) is (omega arith))
 
 pub object_read : {aall nall stage low : ℕ} {marks : List ℕ} (s : List ℕ) (at n : ℕ) (t : Item) → Declared marks → Good aall nall t → Due stage low → low ≤ item_name t
     → pieces_at s at ≡ item_pieces n t → ObjectRead aall nall stage marks s at t

@@ -12,7 +12,7 @@ use Rattle.iso8211.specs.Field.{field_at}
 use Rattle.iso8211.specs.File.{frame_of, record_at}
 use Rattle.iso8211.specs.declared.file.Framed.TheVariants.{Records}
 use Rattle.iso8211.proofs.Promise.{at_start}
-use Rattle.table.specs.Table.{row_of, table, tag_of, kind_of, among, as_number, FIRST, DSID, DSSI, DSPM}
+use Rattle.table.specs.Table.{row_of, table, tag_of, kind_of, among, as_number, first, DSID, DSSI, DSPM}
 use Rattle.table.specs.Text.{bytes}
 use Rattle.values.specs.Class.{is_geo, is_meta, is_collection}
 use Rattle.layout.specs.Layout.{opens, follows, placed, may_end, filled, start}
@@ -95,28 +95,28 @@ module _ (c : Chart) (good : GoodChart c) (few : record_count c ≤ 65536) where
   laid_dsid : laid_in false 0 first_marks start (dsid_pieces c) ≡ true
   unfolding dsid_pieces laid_in kind_of among tag_of row_of table as_number bytes placed opens follows may_end filled bytes_of
   laid_dsid =
-      laid_piece 0 first_marks start FIRST (bytes_of 2 1) (piece DSID (dsid_bytes c.header.dsid) ∷ piece DSSI dssi ∷ []) refl refl refl refl
-      (laid_piece 0 first_marks FIRST DSID (dsid_bytes c.header.dsid) (piece DSSI dssi ∷ []) refl refl refl good.dsid_is_laid
+      laid_piece 0 first_marks start first (bytes_of 2 1) (piece DSID (dsid_bytes c.header.dsid) ∷ piece DSSI dssi ∷ []) refl refl refl refl
+      (laid_piece 0 first_marks first DSID (dsid_bytes c.header.dsid) (piece DSSI dssi ∷ []) refl refl refl good.dsid_is_laid
       (laid_piece 0 first_marks DSID DSSI dssi [] refl refl refl (eq-eqb (length dssi) 35 dssi_is.long) refl))
 
   valued_dsid : valued_in false 0 0 start [] (dsid_pieces c) ≡ true
   unfolding dsid_pieces valued_in kind_of among tag_of row_of table as_number bytes field_fault is_attributes
   valued_dsid =
-      valued_piece 0 0 start FIRST [] (bytes_of 2 1) (piece DSID (dsid_bytes c.header.dsid) ∷ piece DSSI dssi ∷ []) refl refl
-      (λ a. valued_piece 0 0 FIRST DSID a (dsid_bytes c.header.dsid) (piece DSSI dssi ∷ []) refl good.dsid_fine
+      valued_piece 0 0 start first [] (bytes_of 2 1) (piece DSID (dsid_bytes c.header.dsid) ∷ piece DSSI dssi ∷ []) refl refl
+      (λ a. valued_piece 0 0 first DSID a (dsid_bytes c.header.dsid) (piece DSSI dssi ∷ []) refl good.dsid_fine
       (λ b. valued_piece 0 0 DSID DSSI b dssi [] refl (dssi_fine dssi _ _ _ dssi_is good.aall_low good.nall_low) (λ d. refl)))
 
   laid_dspm : laid_in false 1 first_marks start (dspm_pieces c) ≡ true
   unfolding dspm_pieces laid_in kind_of among tag_of row_of table as_number bytes placed opens follows may_end filled bytes_of
   laid_dspm =
-      laid_piece 1 first_marks start FIRST (bytes_of 2 2) (piece DSPM c.header.dspm ∷ []) refl refl refl refl
-      (laid_piece 1 first_marks FIRST DSPM c.header.dspm [] refl refl refl good.dspm_is_laid refl)
+      laid_piece 1 first_marks start first (bytes_of 2 2) (piece DSPM c.header.dspm ∷ []) refl refl refl refl
+      (laid_piece 1 first_marks first DSPM c.header.dspm [] refl refl refl good.dspm_is_laid refl)
 
   valued_dspm : (aall nall : ℕ) → valued_in false aall nall start [] (dspm_pieces c) ≡ true
   unfolding dspm_pieces valued_in kind_of among tag_of row_of table as_number bytes field_fault is_attributes
   valued_dspm aall nall =
-      valued_piece aall nall start FIRST [] (bytes_of 2 2) (piece DSPM c.header.dspm ∷ []) refl refl
-      (λ a. valued_piece aall nall FIRST DSPM a c.header.dspm [] refl good.dspm_fine (λ b. refl))
+      valued_piece aall nall start first [] (bytes_of 2 2) (piece DSPM c.header.dspm ∷ []) refl refl
+      (λ a. valued_piece aall nall first DSPM a c.header.dspm [] refl good.dspm_fine (λ b. refl))
 
 -- ---- the whole chart
 -- where the records of a chart stand

@@ -1,7 +1,7 @@
 -- The held form of a chart: document 01's section of that name. Assumes nothing.
 use Rattle.std.specs.Prelude.{ℕ, ◌+◌, Bool, cond, ◌&&◌, List, [], ◌∷◌, ◌++◌, eqb}
 use Rattle.octets.specs.Number.{bytes_of}
-use Rattle.table.specs.Table.{FIRST, DSID, DSSI, DSPM}
+use Rattle.table.specs.Table.{first, DSID, DSSI, DSPM}
 use Rattle.values.specs.Class.{is_geo, is_meta, is_collection}
 use Rattle.counted.specs.declared.counts.Tally.{Tally}
 use Rattle.records.specs.Pieces.{Piece}
@@ -39,13 +39,13 @@ tally_in ts = record {
 -- ---- the records, each as its fields; "0001 counts from 1"
 unfoldable pub dsid_pieces : Chart → List Piece
 dsid_pieces c =
-    piece FIRST (bytes_of 2 1)
+    piece first (bytes_of 2 1)
     ∷ piece DSID (dsid_bytes c.header.dsid)
     ∷ piece DSSI (dssi_bytes c.header.aall c.header.nall (tally_in c.items))
     ∷ []
 
 unfoldable pub dspm_pieces : Chart → List Piece
-dspm_pieces c = piece FIRST (bytes_of 2 2) ∷ piece DSPM c.header.dspm ∷ []
+dspm_pieces c = piece first (bytes_of 2 2) ∷ piece DSPM c.header.dspm ∷ []
 
 -- the vectors and features, the first with the running number n
 unfoldable pub items_pieces : ℕ → List Item → List (List Piece)

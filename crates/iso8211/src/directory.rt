@@ -2,7 +2,7 @@
 // taken a batch of eight at a time.
 ghost use Rattle.std.specs.Prelude.{◌+◌, ◌*◌, ◌≤◌, ◌≡◌};
 ghost use lib.ListN.{length, take};
-ghost use Rattle.octets.specs.Digits.{no_number};
+ghost use Rattle.octets.specs.Digits.{none};
 ghost use Rattle.iso8211.specs.Directory.{tag_at, row_at, row_width, rows, len, position};
 ghost use Rattle.iso8211.specs.Premises.{RowStep, BatchStep};
 
@@ -26,7 +26,7 @@ pub fn tag_at(s: &[u8], i: usize) -> u32
 // The row at i, with l digits of length and p of position.
 pub fn row_at(s: &[u8], l: usize, p: usize, i: usize) -> [u32; 3]
     requires { (l ≤ 9) × ((p ≤ 9) × (i + row_width l p ≤ length s.now)) }
-    ensures { (result ≡ row_at s.now l p i) × ((len result ≤ no_number) × (position result ≤ no_number)) }
+    ensures { (result ≡ row_at s.now l p i) × ((len result ≤ none) × (position result ≤ none)) }
 {
     let length = get_digits(s, i + 4, l);
     let position = get_digits(s, i + 4 + l, p);

@@ -18,7 +18,7 @@ use Rattle.entries.specs.Rules.{all_of}
 use Rattle.octets.proofs.NumberLaws.{bytes_length, num_read}
 use Rattle.iso8211.specs.Field.{field_at}
 use Rattle.entries.proofs.EntriesLaws.{cut_joined}
-use Rattle.table.specs.Table.{table, row_of, tag_of, kind_of, among, as_number, FIRST, VRID, ATTV, VRPT, SG2D, SG3D, FRID, FOID}
+use Rattle.table.specs.Table.{table, row_of, tag_of, kind_of, among, as_number, first, VRID, ATTV, VRPT, SG2D, SG3D, FRID, FOID}
 use Rattle.table.specs.Text.{bytes}
 use Rattle.values.specs.Vrid.{is_vector, vrid_fault}
 use Rattle.values.specs.Frid.{frid_fault}
@@ -47,9 +47,9 @@ pub record Single (k n : ℕ) : Type 0 where
   pub fills : (c : List ℕ) → length c ≡ n → filled k c ≡ true
   pub single : (row_of k).list ≡ false
 
-single_first : Single FIRST 2
+single_first : Single first 2
 unfolding kind_of among tag_of row_of table as_number bytes filled
-single_first = record { named = refl; declared = λ d. d.is FIRST (omega arith) refl; fills = λ c e. eq-eqb (length c) 2 e; single = refl }
+single_first = record { named = refl; declared = λ d. d.is first (omega arith) refl; fills = λ c e. eq-eqb (length c) 2 e; single = refl }
 
 single_vrid : Single VRID 8
 unfolding kind_of among tag_of row_of table as_number bytes filled
@@ -85,15 +85,15 @@ laid_vector n t {marks = marks} v d =
     ⊎_elim (λ (e : list_pieces vector_kinds ls ≡ list_pieces (ATTV ∷ VRPT ∷ SG2D ∷ []) ls). rw e (laid_lists false 2 ls d each pairs_chain))
     (λ (e : list_pieces vector_kinds ls ≡ list_pieces (ATTV ∷ VRPT ∷ SG3D ∷ []) ls). rw e (laid_lists false 2 ls d each soundings_chain)) (one_list t v.either) in
     laid_single false 2 start (bytes_of 2 n) _ d single_first refl (bytes_length 2 n)
-    (laid_single false 2 FIRST (vrid_bytes t) _ d single_vrid refl (vrid_long t) lists)
+    (laid_single false 2 first (vrid_bytes t) _ d single_vrid refl (vrid_long t) lists)
 
 pub laid_feature : (stage n : ℕ) (t : Item) {aall nall : ℕ} {marks : List ℕ} → (stage ≡ 2) ⊎ (stage ≡ 3) → Feature false aall nall t → Declared marks
     → laid_in false stage marks start (feature_pieces n t) ≡ true
 unfolding feature_pieces placed opens follows row_of table
 laid_feature stage n t due f d =
-    let opened : placed false stage FIRST FRID ≡ true = ⊎_elim (λ (e : stage ≡ 2). rw e) (λ (e : stage ≡ 3). rw e) due in
+    let opened : placed false stage first FRID ≡ true = ⊎_elim (λ (e : stage ≡ 2). rw e) (λ (e : stage ≡ 3). rw e) due in
     laid_single false stage start (bytes_of 2 n) _ d single_first refl (bytes_length 2 n)
-    (laid_single false stage FIRST (frid_bytes t) _ d single_frid opened (frid_long t)
+    (laid_single false stage first (frid_bytes t) _ d single_frid opened (frid_long t)
     (laid_single false stage FRID (bytes_of 8 t.foid) _ d single_foid refl (bytes_length 8 t.foid)
     (laid_lists false stage t.lists d f.lists.each feature_chain)))
 
@@ -103,7 +103,7 @@ valued_single : (aall nall prev : ℕ) {k n : ℕ} (seen c : List ℕ) (rest : L
 unfolding valued_in
 valued_single aall nall prev {k} seen c rest kind none more = rw (kind.named, none) (more (seen_after k (seen_before prev k seen) c))
 
-fault_first : (aall nall : ℕ) (seen c : List ℕ) → field_fault false aall nall FIRST seen c ≡ 0
+fault_first : (aall nall : ℕ) (seen c : List ℕ) → field_fault false aall nall first seen c ≡ 0
 unfolding field_fault is_attributes
 fault_first aall nall seen c = refl
 
@@ -145,15 +145,15 @@ valued_vector n t {aall} {nall} v =
     λ met. ⊎_elim (λ (e : list_pieces vector_kinds ls ≡ list_pieces (ATTV ∷ VRPT ∷ SG2D ∷ []) ls). rw e (valued_lists false aall nall ls each good pairs_chain met))
     (λ (e : list_pieces vector_kinds ls ≡ list_pieces (ATTV ∷ VRPT ∷ SG3D ∷ []) ls). rw e (valued_lists false aall nall ls each good soundings_chain met)) (one_list t v.either) in
     valued_single aall nall start [] (bytes_of 2 n) _ single_first (fault_first aall nall _ _)
-    (λ met. valued_single aall nall FIRST met (vrid_bytes t) _ single_vrid
-    (fault_vrid aall nall (seen_before FIRST VRID met) (vrid_bytes t) ∙ vrid_fine (vrid_bytes t) t (vector_id t v) v.class v.id_low v.id_high v.version_low) lists)
+    (λ met. valued_single aall nall first met (vrid_bytes t) _ single_vrid
+    (fault_vrid aall nall (seen_before first VRID met) (vrid_bytes t) ∙ vrid_fine (vrid_bytes t) t (vector_id t v) v.class v.id_low v.id_high v.version_low) lists)
 
 pub valued_feature : (n : ℕ) (t : Item) {aall nall : ℕ} → Feature false aall nall t → valued_in false aall nall start [] (feature_pieces n t) ≡ true
 unfolding feature_pieces
 valued_feature n t {aall} {nall} f =
     valued_single aall nall start [] (bytes_of 2 n) _ single_first (fault_first aall nall _ _)
-    (λ met. valued_single aall nall FIRST met (frid_bytes t) _ single_frid
-    (fault_frid aall nall (seen_before FIRST FRID met) (frid_bytes t) ∙ frid_fine (frid_bytes t) t (feature_id t f) f.class f.id_low f.id_high f.prim_is_good f.objl_is_good
+    (λ met. valued_single aall nall first met (frid_bytes t) _ single_frid
+    (fault_frid aall nall (seen_before first FRID met) (frid_bytes t) ∙ frid_fine (frid_bytes t) t (feature_id t f) f.class f.id_low f.id_high f.prim_is_good f.objl_is_good
     f.version_low)
     (λ more. valued_single aall nall FRID more (bytes_of 8 t.foid) _ single_foid (fault_foid aall nall _ _)
     (valued_lists false aall nall t.lists f.lists.each f.lists.good feature_chain)))

@@ -11,7 +11,7 @@ use Rattle.octets.specs.Number.{byte_at, num_at, bytes_of}
 use Rattle.octets.specs.Area.{Has}
 use Rattle.octets.proofs.AreaLaws.{has_left, has_right, has_head}
 use Rattle.octets.proofs.NumberLaws.{num_read}
-use Rattle.values.specs.Fault.{fault_at, first_fault}
+use Rattle.values.specs.Fault.{fault_at, first}
 use Rattle.values.specs.Rule.{within, rcid_good, rver_good, ruin_good}
 use Rattle.values.specs.Vrid.{is_vector, vrid_fault}
 use Rattle.values.specs.Frid.{prim_good, frid_fault}
@@ -99,13 +99,13 @@ unfolding num_at
 one_byte s p = omega arith
 
 pub vrid_fine : (v : List ℕ) (t : Item) → VridRead v t → is_vector t.rcnm ≡ true → 1 ≤ t.rcid → t.rcid ≤ 4294967294 → 1 ≤ t.version → vrid_fault false v ≡ 0
-unfolding vrid_fault fault_at first_fault rcid_good rver_good ruin_good within
+unfolding vrid_fault fault_at first rcid_good rver_good ruin_good within
 vrid_fine v t r a b c d =
     rw (one_byte v 0, r.rcnm_is, a, r.rcid_is, le-leb 1 t.rcid b, le-leb t.rcid 4294967294 c, r.version_is, le-leb 1 t.version d, r.ruin_is)
 
 pub frid_fine : (v : List ℕ) (t : Item) → FridRead v t → t.rcnm ≡ 100 → 1 ≤ t.rcid → t.rcid ≤ 4294967294 → prim_good t.prim ≡ true → objl_good t.objl ≡ true
     → 1 ≤ t.version → frid_fault false v ≡ 0
-unfolding frid_fault fault_at first_fault rcid_good rver_good ruin_good within
+unfolding frid_fault fault_at first rcid_good rver_good ruin_good within
 frid_fine v t r a b c d e f =
     rw (
       one_byte v 0,

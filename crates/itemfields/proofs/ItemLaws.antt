@@ -11,7 +11,7 @@ use lib.Dec.{eqb}
 use borrow.Author.Tests.{eqb-true}
 use Rattle.octets.proofs.Tests.{both, all3, or_cases}
 use Rattle.iso8211.specs.Field.{count_at, FieldsIn}
-use Rattle.table.specs.Table.{table, row_of, tag_of, kind_of, among, as_number, FIRST, VRID, FRID, FOID}
+use Rattle.table.specs.Table.{table, row_of, tag_of, kind_of, among, as_number, first, VRID, FRID, FOID}
 use Rattle.table.specs.Text.{bytes}
 use Rattle.values.specs.Vrid.{is_vector}
 use Rattle.layout.specs.Layout.{placed, filled, start}
@@ -50,8 +50,8 @@ laid_pieces update stage marks {s} {at} fs inside is two laid = record {
   two = omega (arith, count_seen s at fs is);
   fills = λ (j : ℕ) (h : j < count_at s at).
       let here : j < length fs = omega (arith, count_seen s at fs is) in
-      ap (λ (f : Piece). filled (kind_in f) f.content) (piece_seen s at fs j (piece FIRST []) is here)
-      ∙ filled_each update stage marks start fs j (piece FIRST []) laid here;
+      ap (λ (f : Piece). filled (kind_in f) f.content) (piece_seen s at fs j (piece first []) is here)
+      ∙ filled_each update stage marks start fs j (piece first []) laid here;
 }
 
 -- ---- few fields
@@ -89,7 +89,7 @@ module _ (s : List ℕ) (at n : ℕ) (t : Item) {aall nall : ℕ} (inside : Fiel
 
     vector_kind : kind_at s at 1 ≡ VRID
     unfolding vector_pieces kind_of among tag_of row_of table as_number bytes
-    vector_kind = rw (tag_seen s at (vector_pieces n t) 1 (piece FIRST []) is (omega arith))
+    vector_kind = rw (tag_seen s at (vector_pieces n t) 1 (piece first []) is (omega arith))
 
     pub vector_known : {marks : List ℕ} → Declared marks → Identified s at
     vector_known d = vector_identified s at (vector_laid d) vector_kind (class_cases (rcnm_at s at) (ap (λ (o : Item). is_vector o.rcnm) (vector_back t v s at n is) ∙ v.class))
@@ -100,11 +100,11 @@ module _ (s : List ℕ) (at n : ℕ) (t : Item) {aall nall : ℕ} (inside : Fiel
 
     feature_kind : kind_at s at 1 ≡ FRID
     unfolding feature_pieces kind_of among tag_of row_of table as_number bytes
-    feature_kind = rw (tag_seen s at (feature_pieces n t) 1 (piece FIRST []) is (omega arith))
+    feature_kind = rw (tag_seen s at (feature_pieces n t) 1 (piece first []) is (omega arith))
 
     foid_kind : kind_at s at 2 ≡ FOID
     unfolding feature_pieces kind_of among tag_of row_of table as_number bytes
-    foid_kind = rw (tag_seen s at (feature_pieces n t) 2 (piece FIRST []) is (omega arith))
+    foid_kind = rw (tag_seen s at (feature_pieces n t) 2 (piece first []) is (omega arith))
 
     pub feature_known : {marks : List ℕ} → Declared marks → Identified s at
     feature_known d =

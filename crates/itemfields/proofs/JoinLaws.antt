@@ -14,7 +14,7 @@ use Rattle.entries.specs.Entries.{entries_of}
 use Rattle.entries.specs.Premises.{Whole}
 use Rattle.entries.specs.Rules.{through}
 use Rattle.entries.proofs.EntriesLaws.{entries_append, entries_nil}
-use Rattle.table.specs.Table.{row_of, table, FIRST, FFPT}
+use Rattle.table.specs.Table.{row_of, table, first, FFPT}
 use Rattle.layout.specs.Layout.{placed, follows, filled, shape_of, start}
 use Rattle.layout.proofs.KindLaws.{Followed, followed}
 use Rattle.layout.proofs.Promise.{full_list}
@@ -35,7 +35,7 @@ pub record Step (update : Bool) (stage : ℕ) (marks : List ℕ) (prev : ℕ) (f
 not_nine : (a k : ℕ) → (row_of a).group ≡ 9 → (row_of k).group ≤ 3 → eqb k a ≡ false
 not_nine a k nine low = ne_eqb k a (λ e. let g : (row_of k).group ≡ 9 = rw e nine in omega arith)
 
-nine_first : (row_of FIRST).group ≡ 9
+nine_first : (row_of first).group ≡ 9
 unfolding row_of table
 nine_first = refl
 
@@ -51,7 +51,7 @@ step update stage marks prev f fs low h =
     let p = both (piece_laid update stage marks prev f) (laid_in update stage marks k fs) h in
     let q = both (placed update stage prev k) (eqb (get_or marks k 0) 1 && filled k f.content) p.0 in
     let r = both (eqb (get_or marks k 0) 1) (filled k f.content) q.1 in
-    let placing : follows update prev k ≡ true = rw (not_nine start prev nine_start low, not_nine FIRST prev nine_first low) at q.0 in
+    let placing : follows update prev k ≡ true = rw (not_nine start prev nine_start low, not_nine first prev nine_first low) at q.0 in
     record {
       placing = placing;
       after = followed update prev k placing;

@@ -7,7 +7,7 @@ use lib.Dec.{eqb, leb}
 use borrow.Author.Tests.{eqb-true, leb-true, not-true}
 use Rattle.octets.proofs.Tests.{both, all4, implied}
 use Rattle.entries.specs.declared.Shape.{Shape}
-use Rattle.table.specs.Table.{table, row_of, tag_of, kind_of, among, as_number, DSID, DSSI, DSPM, VRID, ATTV, VRPT, SG2D, SG3D, FRID, FOID, ATTF, NATF, FFPT, FSPT, FIRST}
+use Rattle.table.specs.Table.{table, row_of, tag_of, kind_of, among, as_number, DSID, DSSI, DSPM, VRID, ATTV, VRPT, SG2D, SG3D, FRID, FOID, ATTF, NATF, FFPT, FSPT, first}
 use Rattle.table.specs.Text.{bytes}
 use Rattle.layout.specs.Layout.{follows, placed, may_end, shape_of}
 use Rattle.attributes.specs.Attributes.{attribute, pointer}
@@ -16,7 +16,7 @@ use Rattle.fieldvalue.specs.Value.{is_attributes}
 -- k is a kind of list
 pub record ListKind (k : ℕ) : Type 0 where
   pub named : kind_of (tag_of k) ≡ k
-  pub few : k ≤ FIRST
+  pub few : k ≤ first
   pub list : (row_of k).list ≡ true
   pub free : (row_of k).control ≡ false
   pub no_dsid : eqb k DSID ≡ false
@@ -33,7 +33,7 @@ same_shape a b = eqb a.fixed b.fixed && eqb a.unit b.unit
 
 unfoldable is_list_kind : ℕ → Bool
 is_list_kind k =
-    (eqb (kind_of (tag_of k)) k && (leb k FIRST && ((row_of k).list && not (row_of k).control)))
+    (eqb (kind_of (tag_of k)) k && (leb k first && ((row_of k).list && not (row_of k).control)))
     && ((not (eqb k DSID) && (not (eqb k DSSI) && (not (eqb k DSPM) && (not (eqb k VRID) && not (eqb k FRID)))))
     && ((not (is_attributes k) || same_shape (shape_of k) attribute) && (not (eqb k FFPT) || same_shape (shape_of k) pointer)))
 
@@ -47,8 +47,8 @@ shape_told a b h = let p = both (eqb a.fixed b.fixed) (eqb a.unit b.unit) h in p
 list_kind : (k : ℕ) → is_list_kind k ≡ true → ListKind k
 unfolding is_list_kind
 list_kind k h =
-    let p = both (eqb (kind_of (tag_of k)) k && (leb k FIRST && ((row_of k).list && not (row_of k).control))) _ h in
-    let row = all4 (eqb (kind_of (tag_of k)) k) (leb k FIRST) (row_of k).list (not (row_of k).control) p.0 in
+    let p = both (eqb (kind_of (tag_of k)) k && (leb k first && ((row_of k).list && not (row_of k).control))) _ h in
+    let row = all4 (eqb (kind_of (tag_of k)) k) (leb k first) (row_of k).list (not (row_of k).control) p.0 in
     let q = both (not (eqb k DSID) && (not (eqb k DSSI) && (not (eqb k DSPM) && (not (eqb k VRID) && not (eqb k FRID))))) _ p.1 in
     let head = all4 (not (eqb k DSID)) (not (eqb k DSSI)) (not (eqb k DSPM)) (not (eqb k VRID) && not (eqb k FRID)) q.0 in
     let item = both (not (eqb k VRID)) (not (eqb k FRID)) head.3 in

@@ -13,7 +13,7 @@ use Rattle.octets.proofs.Cases.{true_or_false}
 use Rattle.octets.proofs.Tests.{all3, never}
 use Rattle.entries.specs.Entries.{Each}
 use Rattle.entries.proofs.EntriesLaws.{cut_joined, joined_whole, whole_told}
-use Rattle.table.specs.Table.{row_of, FFPT, FIRST}
+use Rattle.table.specs.Table.{row_of, FFPT, first}
 use Rattle.layout.specs.Layout.{filled, shape_of}
 use Rattle.attributes.specs.Attributes.{attribute, pointer, attributes_from, attributes_fault, ffpt_from, ffpt_fault, label_of, met_label, value_good, rind_good, comment_of}
 use Rattle.headvalues.specs.Text.{text_good}
@@ -34,7 +34,7 @@ filled_list {k} e es kind each =
 -- ---- lists are laid out
 -- every field but a control is declared
 pub record Declared (marks : List ℕ) : Type 0 where
-  pub is : (k : ℕ) → k ≤ FIRST → (row_of k).control ≡ false → get_or marks k 0 ≡ 1
+  pub is : (k : ℕ) → k ≤ first → (row_of k).control ≡ false → get_or marks k 0 ≡ 1
 
 laid_list : (update : Bool) (stage : ℕ) {marks : List ℕ} {prev k : ℕ} (es : List (List ℕ)) (rest : List Piece) → Declared marks → ListKind k → Behind prev k → Each (shape_of k) es
     → laid_in update stage marks prev rest ≡ true → laid_in update stage marks k rest ≡ true → laid_in update stage marks prev (list_piece k es ++ rest) ≡ true

@@ -17,7 +17,7 @@ use Rattle.octets.proofs.Tests.{both, or_cases, never}
 use Rattle.iso8211.specs.Field.{field_at}
 use Rattle.entries.specs.Entries.Each.{each_none}
 use Rattle.entries.proofs.EntriesLaws.{each_entries, entries_nil}
-use Rattle.table.specs.Table.{row_of, table, FIRST, VRID, ATTV, VRPT, SG2D, SG3D, FRID, FOID, ATTF, NATF, FFPT, FSPT, Row}
+use Rattle.table.specs.Table.{row_of, table, first, VRID, ATTV, VRPT, SG2D, SG3D, FRID, FOID, ATTF, NATF, FFPT, FSPT, Row}
 use Rattle.table.proofs.TableLaws.{row_past}
 use Rattle.values.specs.Fault.{fault_at}
 use Rattle.values.specs.Fault as fault
@@ -49,8 +49,8 @@ num_small s small p zero = omega arith
 num_small s small p (suc n) = rw (pow-suc 256 n) (let a = small p in let b = num_small s small (suc p) n in omega arith)
 
 -- ---- out of a fault of 0
-pub none_first : (a b : ℕ) → fault.first_fault a b ≡ 0 → (a ≡ 0) × (b ≡ 0)
-unfolding fault.first_fault
+pub none_first : (a b : ℕ) → fault.first a b ≡ 0 → (a ≡ 0) × (b ≡ 0)
+unfolding fault.first
 none_first a b h =
     ⊎_elim (λ (e : eqb a 0 ≡ true). (eqb-true a 0 e, rw e at h)) (λ (e : eqb a 0 ≡ false). absurd (eqb-false a 0 e (rw e at h))) (true_or_false (eqb a 0))
 
@@ -65,7 +65,7 @@ pub record Opened (update : Bool) (stage : ℕ) (marks : List ℕ) (aall nall : 
   pub two : Piece
   pub rest : List Piece
   pub is : fs ≡ one ∷ two ∷ rest
-  pub head : kind_in one ≡ FIRST
+  pub head : kind_in one ≡ first
   pub opening : opens stage (kind_in two) ≡ true
   pub full : filled (kind_in two) two.content ≡ true
   pub laid : laid_in update stage marks (kind_in two) rest ≡ true
@@ -79,15 +79,15 @@ unfolding laid_in piece_laid placed valued_in may_end
 opened update stage marks aall nall [] some laid valued = absurd (omega arith)
 opened update stage marks aall nall (f ∷ []) some laid valued =
     let a = both (piece_laid update stage marks start f) (may_end (kind_in f)) laid in
-    let b = both (eqb (kind_in f) FIRST) _ a.0 in
-    let e : kind_in f ≡ FIRST = eqb-true (kind_in f) FIRST b.0 in
+    let b = both (eqb (kind_in f) first) _ a.0 in
+    let e : kind_in f ≡ first = eqb-true (kind_in f) first b.0 in
     never (rw e at a.1)
 opened update stage marks aall nall (f ∷ g ∷ fs) some laid valued =
     let a = both (piece_laid update stage marks start f) (laid_in update stage marks (kind_in f) (g ∷ fs)) laid in
-    let b = both (eqb (kind_in f) FIRST) (eqb (get_or marks (kind_in f) 0) 1 && filled (kind_in f) f.content) a.0 in
-    let e : kind_in f ≡ FIRST = eqb-true (kind_in f) FIRST b.0 in
-    let c : laid_in update stage marks FIRST (g ∷ fs) ≡ true = rw e at a.1 in
-    let d = both (piece_laid update stage marks FIRST g) (laid_in update stage marks (kind_in g) fs) c in
+    let b = both (eqb (kind_in f) first) (eqb (get_or marks (kind_in f) 0) 1 && filled (kind_in f) f.content) a.0 in
+    let e : kind_in f ≡ first = eqb-true (kind_in f) first b.0 in
+    let c : laid_in update stage marks first (g ∷ fs) ≡ true = rw e at a.1 in
+    let d = both (piece_laid update stage marks first g) (laid_in update stage marks (kind_in g) fs) c in
     let h = both (opens stage (kind_in g)) (eqb (get_or marks (kind_in g) 0) 1 && filled (kind_in g) g.content) d.0 in
     let i = both (eqb (get_or marks (kind_in g) 0) 1) (filled (kind_in g) g.content) h.1 in
     let met = seen_after (kind_in f) (seen_before start (kind_in f) []) f.content in
@@ -151,9 +151,9 @@ version_range c i h = leb-true 1 (num_at c i 2) h
 
 -- ---- lists
 -- kinds of lists: those of group 2 and 3
-list_few : (k : ℕ) → (row_of k).list ≡ true → k < FIRST
+list_few : (k : ℕ) → (row_of k).list ≡ true → k < first
 unfolding row_of table
-list_few k h = ⊎_elim (λ (l : FIRST ≤ k). never (ap (λ (r : Row). r.list) (sym (row_past k l)) ∙ h)) (λ (l : k < FIRST). l) (le_or_lt FIRST k)
+list_few k h = ⊎_elim (λ (l : first ≤ k). never (ap (λ (r : Row). r.list) (sym (row_past k l)) ∙ h)) (λ (l : k < first). l) (le_or_lt first k)
 
 implied_both : (a b c : Bool) → (not (a && b) || c) ≡ true → a ≡ true → b ≡ true → c ≡ true
 implied_both true true c h p q = h
@@ -164,13 +164,13 @@ vector_kinds_lem : (k : ℕ) → (row_of k).list ≡ true → (row_of k).group �
 unfolding all_below_lem row_of table is_in
 vector_kinds_lem k list group =
     implied_both (row_of k).list (eqb (row_of k).group 2) (is_in k vector_kinds)
-    (all_below_lem (λ j. not ((row_of j).list && eqb (row_of j).group 2) || is_in j vector_kinds) FIRST k refl (list_few k list)) list (eq-eqb _ _ group)
+    (all_below_lem (λ j. not ((row_of j).list && eqb (row_of j).group 2) || is_in j vector_kinds) first k refl (list_few k list)) list (eq-eqb _ _ group)
 
 feature_kinds_lem : (k : ℕ) → (row_of k).list ≡ true → (row_of k).group ≡ 3 → is_in k feature_kinds ≡ true
 unfolding all_below_lem row_of table is_in
 feature_kinds_lem k list group =
     implied_both (row_of k).list (eqb (row_of k).group 3) (is_in k feature_kinds)
-    (all_below_lem (λ j. not ((row_of j).list && eqb (row_of j).group 3) || is_in j feature_kinds) FIRST k refl (list_few k list)) list (eq-eqb _ _ group)
+    (all_below_lem (λ j. not ((row_of j).list && eqb (row_of j).group 3) || is_in j feature_kinds) first k refl (list_few k list)) list (eq-eqb _ _ group)
 
 of_four : (a b c d k : ℕ) → ListKind a → ListKind b → ListKind c → ListKind d → is_in k (a ∷ b ∷ c ∷ d ∷ []) ≡ true → ListKind k
 unfolding is_in
@@ -307,7 +307,7 @@ module _ (update : Bool) (stage : ℕ) (marks : List ℕ) (aall nall : ℕ) (s :
       let vs = num_small s small (id_at s at + 5) 2 in
       let laid : laid_in update stage marks VRID o.rest ≡ true = rw vrid at o.laid in
       let head : (k : ℕ) → (row_of k).list ≡ true → list_in k fs ≡ list_in k o.rest =
-      λ k l. other_past k FIRST o.one (o.two ∷ o.rest) o.head refl l ∙ other_past k VRID o.two o.rest vrid refl l in
+      λ k l. other_past k first o.one (o.two ∷ o.rest) o.head refl l ∙ other_past k VRID o.two o.rest vrid refl l in
       record {
         item = record {
           class = class;
@@ -353,7 +353,7 @@ module _ (update : Bool) (stage : ℕ) (marks : List ℕ) (aall nall : ℕ) (s :
       let ps = small (id + 5) in
       let gs = small (id + 6) in
       let head : (k : ℕ) → (row_of k).list ≡ true → list_in k fs ≡ list_in k ob.rest =
-      λ k l. other_past k FIRST o.one (o.two ∷ o.rest) o.head refl l ∙ other_past k FRID o.two o.rest frid refl l
+      λ k l. other_past k first o.one (o.two ∷ o.rest) o.head refl l ∙ other_past k FRID o.two o.rest frid refl l
       ∙ ap (list_in k) ob.is ∙ other_past k FOID ob.three ob.rest ob.kind refl l in
       record {
         item = record {

@@ -2,7 +2,7 @@
 use Rattle.std.specs.Prelude.{ℕ, cond}
 use mathlib.Core.List.{List, [], ◌∷◌, ◌++◌, flatten}
 use Rattle.octets.specs.Number.{bytes_of}
-use Rattle.table.specs.Table.{tag_of, FIRST, VRID, ATTV, VRPT, SG2D, SG3D, FRID, FOID, ATTF, NATF, FFPT, FSPT}
+use Rattle.table.specs.Table.{tag_of, first, VRID, ATTV, VRPT, SG2D, SG3D, FRID, FOID, ATTF, NATF, FFPT, FSPT}
 use Rattle.items.specs.Item.{Item, is_feature}
 use Rattle.records.specs.Pieces.{Piece}
 
@@ -35,10 +35,10 @@ frid_bytes t =
 
 -- the fields of the record with the running number n
 unfoldable pub vector_pieces : ℕ → Item → List Piece
-vector_pieces n t = piece FIRST (bytes_of 2 n) ∷ piece VRID (vrid_bytes t) ∷ list_pieces vector_kinds t.lists
+vector_pieces n t = piece first (bytes_of 2 n) ∷ piece VRID (vrid_bytes t) ∷ list_pieces vector_kinds t.lists
 
 unfoldable pub feature_pieces : ℕ → Item → List Piece
-feature_pieces n t = piece FIRST (bytes_of 2 n) ∷ piece FRID (frid_bytes t) ∷ piece FOID (bytes_of 8 t.foid) ∷ list_pieces feature_kinds t.lists
+feature_pieces n t = piece first (bytes_of 2 n) ∷ piece FRID (frid_bytes t) ∷ piece FOID (bytes_of 8 t.foid) ∷ list_pieces feature_kinds t.lists
 
 unfoldable pub item_pieces : ℕ → Item → List Piece
 item_pieces n t = cond (is_feature t.rcnm) (feature_pieces n t) (vector_pieces n t)

@@ -10,7 +10,7 @@ use lib.Dec.{eqb}
 use borrow.Author.Tests.{eq-eqb, ne_eqb, eqb-true}
 use Rattle.octets.proofs.Cases.{true_or_false}
 use Rattle.entries.proofs.EntriesLaws.{count_few}
-use Rattle.table.specs.Table.{FIRST, tag_of, kind_of}
+use Rattle.table.specs.Table.{first, tag_of, kind_of}
 use Rattle.layout.specs.Layout.{shape_of, filled}
 use Rattle.layout.proofs.Promise.{full_list}
 use Rattle.records.specs.Pieces.{Piece}
@@ -24,7 +24,7 @@ use Rattle.itemrows.specs.Joined.{field_piece, field_pieces}
 -- kinds of lists, ascending, from `low` on
 pub data Rising : ℕ → List ℕ → Type 0 where
   rising_none : {low : ℕ} → Rising low []
-  rising_more : {low k : ℕ} {ks : List ℕ} → low ≤ k → k < FIRST → ListKind k → Rising (suc k) ks → Rising low (k ∷ ks)
+  rising_more : {low k : ℕ} {ks : List ℕ} → low ≤ k → k < first → ListKind k → Rising (suc k) ks → Rising low (k ∷ ks)
 
 pub vector_rising : Rising 4 vector_kinds
 vector_rising =
@@ -98,21 +98,21 @@ piece_is k f e some = by f.content refl some
     by (b ∷ bs) same h = ap (λ (p : Piece). p ∷ []) (rw (← same, ← e))
 
 chosen_fields : (low : ℕ) {ks : List ℕ} {fs : List Piece} (bytes : ℕ → List ℕ) → Chosen ks fs → Rising low ks
-    → ((k : ℕ) → low ≤ k → k < FIRST → bytes k ≡ list_in k fs) → field_pieces ks bytes ≡ fs
+    → ((k : ℕ) → low ≤ k → k < first → bytes k ≡ list_in k fs) → field_pieces ks bytes ≡ fs
 unfolding field_pieces field_piece list_in
 chosen_fields low bytes chosen_none r are = refl
 chosen_fields low bytes (chosen_skip {k = k} {fs = fs} more) (rising_more lo hi kind rest) are =
     let none : bytes k ≡ [] = are k lo hi ∙ absent k (suc k) more rest (omega arith) in
-    rw none (chosen_fields (suc k) bytes more rest (λ (j : ℕ) (from : suc k ≤ j) (to : j < FIRST). are j (omega arith) to))
+    rw none (chosen_fields (suc k) bytes more rest (λ (j : ℕ) (from : suc k ≤ j) (to : j < first). are j (omega arith) to))
 chosen_fields low bytes (chosen_take {k = k} {f = f} {fs = fs} e some more) (rising_more lo hi kind rest) are =
     let here : kind_in f ≡ k = ap kind_of e ∙ kind.named in
     let mine : bytes k ≡ f.content =
     are k lo hi ∙ rw (eq-eqb (kind_in f) k here, absent k (suc k) more rest (omega arith)) (append-nil f.content) in
-    let others : (j : ℕ) → suc k ≤ j → j < FIRST → bytes j ≡ list_in j fs =
-    λ (j : ℕ) (from : suc k ≤ j) (to : j < FIRST). are j (omega arith) to ∙ rw (ne_eqb (kind_in f) j (λ (same : kind_in f ≡ j). omega arith)) in
+    let others : (j : ℕ) → suc k ≤ j → j < first → bytes j ≡ list_in j fs =
+    λ (j : ℕ) (from : suc k ≤ j) (to : j < first). are j (omega arith) to ∙ rw (ne_eqb (kind_in f) j (λ (same : kind_in f ≡ j). omega arith)) in
     rw (mine, piece_is k f e some, chosen_fields (suc k) bytes more rest others)
 
 -- where the kinds' tags take all rows, the fields are the held form of their lists
 pub all_taken : (ks : List ℕ) (fs : List Piece) (due low : ℕ) (bytes : ℕ → List ℕ) → Rising low ks → Full fs → untaken (tags_of ks) (rows_for due fs) ≡ []
-    → ((k : ℕ) → low ≤ k → k < FIRST → bytes k ≡ list_in k fs) → field_pieces ks bytes ≡ fs
+    → ((k : ℕ) → low ≤ k → k < first → bytes k ≡ list_in k fs) → field_pieces ks bytes ≡ fs
 all_taken ks fs due low bytes rising full none are = chosen_fields low bytes (chosen ks fs due low rising full none) rising are

@@ -2,7 +2,7 @@
 -- its proofs, and nothing here need be believed: what is promised of an item is `item_pieces` of the crate `itemfields`. Assumes nothing.
 use Rattle.std.specs.Prelude.{ℕ, ◌+◌, ◌-◌, ◌≤◌, ◌<◌, cond, List, [], ◌∷◌, ◌++◌, ◌≡◌, length, take, drop, get_or, eqb}
 use Rattle.octets.specs.Number.{bytes_of}
-use Rattle.table.specs.Table.{FIRST, VRID, FRID, FOID}
+use Rattle.table.specs.Table.{first, VRID, FRID, FOID}
 use Rattle.layout.specs.Record.{content_at}
 use Rattle.items.specs.Identity.{id_at}
 use Rattle.items.specs.Lists.{list_at}
@@ -31,7 +31,7 @@ kept_pieces (k ∷ ks) s at j = piece k (content_at s at j) ∷ kept_pieces ks s
 
 -- the fields before the lists: 0001 with the running number, and the identifier fields
 unfoldable pub lead_pieces : ℕ → List ℕ → ℕ → ℕ → List Piece
-lead_pieces number s at m = piece FIRST (bytes_of 2 number) ∷ kept_pieces (id_kinds m) s at 1
+lead_pieces number s at m = piece first (bytes_of 2 number) ∷ kept_pieces (id_kinds m) s at 1
 
 -- all fields: "Repeats of a tag join into one list"
 unfoldable pub joined_pieces : ℕ → List ℕ → ℕ → ℕ → List ℕ → List Piece

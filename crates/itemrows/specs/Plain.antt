@@ -4,7 +4,7 @@ use Rattle.std.specs.Prelude.{ℕ, ◌+◌, ◌-◌, ◌≤◌, Bool, true, cond
 use Rattle.octets.specs.Number.{byte_at}
 use Rattle.iso8211.specs.Directory.{tag, len, position}
 use Rattle.iso8211.specs.Field.{count_at, directory_at}
-use Rattle.table.specs.Table.{FIRST, VRID, tag_of}
+use Rattle.table.specs.Table.{first, VRID, tag_of}
 use Rattle.layout.specs.Record.{kind_at}
 use Rattle.items.specs.Identity.{id_at, rcnm_at}
 use Rattle.items.specs.Premises.{LaidOut, Identified}
@@ -42,7 +42,7 @@ untaken (t ∷ ts) (row ∷ rows) = cond (eqb (tag row) t) (untaken ts rows) (un
 
 -- 0001, then VRID and lists of a vector, or FRID, FOID and lists of a feature: each list in one field, in held order
 pub record Plain (rows : List (List ℕ)) : Type 0 where
-  pub front : tag (get_or rows 0 []) ≡ tag_of FIRST
+  pub front : tag (get_or rows 0 []) ≡ tag_of first
   pub lists : ((tag (get_or rows 1 []) ≡ tag_of VRID) × (untaken (tags_of vector_kinds) (drop 2 rows) ≡ []))
       ⊎ ((tag (get_or rows 1 []) ≡ tag_of VRID → ⊥) × (untaken (tags_of feature_kinds) (drop 3 rows) ≡ []))
 

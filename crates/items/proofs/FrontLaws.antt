@@ -8,7 +8,7 @@ use Rattle.iso8211.specs.Leader.{base_at}
 use Rattle.iso8211.specs.Field.{count_at, field_at}
 use Rattle.iso8211.specs.Premises.{HeadOf}
 use Rattle.iso8211.specs.declared.field.Head.{Head}
-use Rattle.table.specs.Table.{table, kind_of, among, as_number, FIRST}
+use Rattle.table.specs.Table.{table, kind_of, among, as_number, first}
 use Rattle.table.specs.Text.{bytes}
 use Rattle.layout.specs.Record.{kind_at, content_at}
 use Rattle.layout.proofs.Promise.{full_first, content_length}
@@ -22,24 +22,24 @@ module _ {s : List ℕ} {at : ℕ} (laid : LaidOut s at) where
       let some = (laid.inside.fields j h).long in
       omega (arith, content_length s at j laid.inside h)
 
-  module _ (front : kind_at s at 0 ≡ FIRST) where
+  module _ (front : kind_at s at 0 ≡ first) where
     pub first_long : (field_at s at 0).length ≡ 3
     first_long =
         let two = laid.two in
-        long_is 0 FIRST 2 (omega arith) front (full_first (content_at s at 0) (rw front at (laid.fills 0 (omega arith))))
+        long_is 0 first 2 (omega arith) front (full_first (content_at s at 0) (rw front at (laid.fills 0 (omega arith))))
 
     pub id_place : at + base_at s at + 3 ≡ id_at s at
     id_place =
         let two = laid.two in
         omega (arith, laid.inside.gapless 0 (omega arith), laid.inside.front, first_long)
 
-first_kind : kind_of 808464433 ≡ FIRST
+first_kind : kind_of 808464433 ≡ first
 unfolding kind_of among table as_number bytes
 first_kind = refl
 
 -- ---- by the tag as it is read
 module _ (s : List ℕ) (at : ℕ) (h : Head) (t : ℕ) (laid : LaidOut s at) (head : HeadOf s at h) (read : t ≡ (field_at s at 0).tag) (front : t ≡ 808464433) where
-  pub front_kind : kind_at s at 0 ≡ FIRST
+  pub front_kind : kind_at s at 0 ≡ first
   front_kind = ap kind_of (sym read ∙ front) ∙ first_kind
 
   pub front_id : at + h.base + 3 ≡ id_at s at

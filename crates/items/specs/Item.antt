@@ -2,7 +2,6 @@
 use Rattle.std.specs.Prelude.{ℕ, ◌+◌, Bool, cond, List, [], eqb}
 use Rattle.octets.specs.Number.{byte_at}
 use Rattle.table.specs.Table.{row_of}
-use Rattle.table.specs.Offsets.{FRID_GRUP}
 use Rattle.items.specs.Lists.{entries_at}
 use Rattle.items.specs.Identity.{id_at, rcnm_at, rcid_at, version_at, prim_at, objl_at, foid_at, name_from}
 
@@ -21,7 +20,7 @@ unfoldable pub is_feature : ℕ → Bool
 is_feature rcnm = eqb rcnm 100
 
 unfoldable pub grup_at : List ℕ → ℕ → ℕ
-grup_at s at = byte_at s (id_at s at + FRID_GRUP)
+grup_at s at = byte_at s (id_at s at + 6)
 
 -- what is there of a feature alone
 unfoldable pub of_feature : ℕ → ℕ → ℕ

@@ -12,7 +12,7 @@ use Rattle.octets.proofs.ListLaws.{all_below_lem, all_below_lem}
 use Rattle.octets.proofs.Tests.{both, all4, implied, or_cases}
 use Rattle.entries.specs.Premises.{Sound}
 use Rattle.entries.specs.Rules.{all_of}
-use Rattle.table.specs.Table.{Row, table, row_of, kind_of, among, as_number, FIRST, DSID, DSSI, DSPM, VRID, FRID, FOID, unknown, kind_count}
+use Rattle.table.specs.Table.{Row, table, row_of, kind_of, among, as_number, first, DSID, DSSI, DSPM, VRID, FRID, FOID, unknown, kind_count}
 use Rattle.table.specs.Text.{bytes}
 use Rattle.layout.specs.Layout.{opens, follows, shape_of}
 
@@ -50,7 +50,7 @@ either_few false x y h k = k
 
 among_few : (rows : List Row) (k t : ℕ) → k + length rows < kind_count → among rows k t < kind_count
 unfolding among
-among_few [] k t h = either_few (eqb t 808464433) FIRST unknown (omega arith) (omega arith)
+among_few [] k t h = either_few (eqb t 808464433) first unknown (omega arith) (omega arith)
 among_few (r ∷ rows) k t h = either_few (eqb t (as_number (bytes r.tag) 0)) k (among rows (suc k) t) (omega arith) (among_few rows (suc k) t (omega arith))
 
 pub kind_few : (t : ℕ) → kind_of t < kind_count
@@ -104,7 +104,7 @@ opens_group stage k h =
     let p = both (leb (row_of k).group 3) (not (row_of k).control) (implied (eqb (row_of k).order 1) _ (row_opener k) first_place) in
     (leb-true _ _ p.0, p.1)
 
-pub first_apart : (row_of FIRST).group ≡ 9
+pub first_apart : (row_of first).group ≡ 9
 unfolding row_of table
 first_apart = refl
 

@@ -25,7 +25,7 @@ use Rattle.dataset.specs.Premises.{DsidLaid}
 use Rattle.headvalues.specs.Premises.{DspmLaid}
 use Rattle.dataset.proofs.DsidLaws.{dsid_is_laid}
 use Rattle.headvalues.proofs.DspmLaws.{dspm_is_laid}
-use Rattle.table.specs.Table.{table, row_of, FIRST, DSID, DSSI, DSPM, VRID, FRID, FOID, kind_count}
+use Rattle.table.specs.Table.{table, row_of, first, DSID, DSSI, DSPM, VRID, FRID, FOID, kind_count}
 use Rattle.layout.specs.Layout.{opens, follows, placed, may_end, filled, shape_of, field_laid, laid_from, layout_fault, start}
 use Rattle.layout.specs.Record.{kind_at, content_at}
 use Rattle.layout.specs.Premises.{Laid}
@@ -86,7 +86,7 @@ module _ (update : Bool) (stage : ℕ) (marks s : List ℕ) (at : ℕ) (none : l
   pub layout_declared : (j : ℕ) → j < count_at s at → get_or marks (kind_at s at j) 0 ≡ 1
   layout_declared j h = eqb-true _ _ (each j h).1
 
-  pub layout_head : 0 < count_at s at → kind_at s at 0 ≡ FIRST
+  pub layout_head : 0 < count_at s at → kind_at s at 0 ≡ first
   unfolding placed before
   layout_head h = eqb-true _ _ (each 0 h).0
 
@@ -97,15 +97,15 @@ module _ (update : Bool) (stage : ℕ) (marks s : List ℕ) (at : ℕ) (none : l
       rw (layout_head (omega arith)) at p
 
   -- behind one that is not the first
-  behind : (j : ℕ) → suc j < count_at s at → (kind_at s at j ≡ FIRST → ⊥) → follows update (kind_at s at j) (kind_at s at (suc j)) ≡ true
+  behind : (j : ℕ) → suc j < count_at s at → (kind_at s at j ≡ first → ⊥) → follows update (kind_at s at j) (kind_at s at (suc j)) ≡ true
   unfolding placed before
   behind j h other =
       let p : placed update stage (kind_at s at j) (kind_at s at (suc j)) ≡ true = (each (suc j) h).0 in
       let few = kind_few (field_at s at j).tag in
-      rw (ne_eqb (kind_at s at j) start (λ (e : kind_at s at j ≡ start). omega arith), ne_eqb (kind_at s at j) FIRST other) at p
+      rw (ne_eqb (kind_at s at j) start (λ (e : kind_at s at j ≡ start). omega arith), ne_eqb (kind_at s at j) first other) at p
 
   -- a field of the group of field 1 is not the first
-  not_first : (k : ℕ) → 1 < count_at s at → (row_of k).group ≡ (row_of (kind_at s at 1)).group → k ≡ FIRST → ⊥
+  not_first : (k : ℕ) → 1 < count_at s at → (row_of k).group ≡ (row_of (kind_at s at 1)).group → k ≡ first → ⊥
   not_first k h same e =
       let low = (opens_group stage (kind_at s at 1) (layout_opened h)).0 in
       let nine : (row_of k).group ≡ 9 = rw e first_apart in
@@ -142,11 +142,11 @@ module _ (update : Bool) (stage : ℕ) (marks s : List ℕ) (at : ℕ) (none : l
         let some = framed.headed.some in
         let one : count_at s at ≡ 1 = omega arith in
         let m : may_end (kind_at s at 0) ≡ true = rw one at layout_end in
-        let f : may_end FIRST ≡ true = rw (layout_head (omega arith)) at m in
+        let f : may_end first ≡ true = rw (layout_head (omega arith)) at m in
         absurd (let z : ◌≡◌ {A = ℕ} 0 1 = cc in omega arith))
         (le_or_lt 2 (count_at s at))
 
-    pub layout_opens : (2 ≤ count_at s at) × (kind_at s at 0 ≡ FIRST) × (opens stage (kind_at s at 1) ≡ true)
+    pub layout_opens : (2 ≤ count_at s at) × (kind_at s at 0 ≡ first) × (opens stage (kind_at s at 1) ≡ true)
     layout_opens = let two = layout_two in (two, layout_head (omega arith), layout_opened two)
 
 last_before : (s : List ℕ) (at n : ℕ) → 1 ≤ n → before s at n ≡ kind_at s at (n - 1)
@@ -294,9 +294,9 @@ full_list k c list h =
     let two : k ≡ DSPM → ⊥ = λ (e : k ≡ DSPM). let f = rw e at list in let z : ◌≡◌ {A = ℕ} 0 1 = cc in omega arith in
     whole_good_lem (shape_of k) c (rw (ne_eqb k DSID one, ne_eqb k DSPM two, list) at h)
 
-pub full_first : (c : List ℕ) → filled FIRST c ≡ true → length c ≡ 2
+pub full_first : (c : List ℕ) → filled first c ≡ true → length c ≡ 2
 unfolding row_of table
-full_first c h = full_single FIRST c (λ (e : FIRST ≡ DSID). omega arith) (λ (e : FIRST ≡ DSPM). omega arith) refl h
+full_first c h = full_single first c (λ (e : first ≡ DSID). omega arith) (λ (e : first ≡ DSPM). omega arith) refl h
 
 pub full_dssi : (c : List ℕ) → filled DSSI c ≡ true → length c ≡ 35
 unfolding row_of table

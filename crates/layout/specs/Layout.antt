@@ -7,7 +7,7 @@ use Rattle.entries.specs.Entries.{whole_good}
 use Rattle.entries.specs.declared.Shape.{Shape}
 use Rattle.dataset.specs.Dsid.{dsid_laid}
 use Rattle.headvalues.specs.Dspm.{dspm_laid}
-use Rattle.table.specs.Table.{row_of, kind_of, FIRST, DSID, DSPM, FRID, FOID, kind_count}
+use Rattle.table.specs.Table.{row_of, kind_of, first, DSID, DSPM, FRID, FOID, kind_count}
 
 -- no field yet: where a record begins
 abbrev pub start : ℕ
@@ -28,11 +28,11 @@ follows update prev k =
     && ((not (eqb prev FRID) || eqb k FOID) && (not (row_of k).control || update)))
 
 unfoldable pub placed : Bool → ℕ → ℕ → ℕ → Bool
-placed update stage prev k = cond (eqb prev start) (eqb k FIRST) (cond (eqb prev FIRST) (opens stage k) (follows update prev k))
+placed update stage prev k = cond (eqb prev start) (eqb k first) (cond (eqb prev first) (opens stage k) (follows update prev k))
 
 -- "0001 DSID DSSI", "Feature: 0001 FRID FOID": a record does not end behind 0001, DSID or FRID, else "a .. field missing"
 unfoldable pub may_end : ℕ → Bool
-may_end prev = not (eqb prev FIRST || (eqb prev DSID || eqb prev FRID))
+may_end prev = not (eqb prev first || (eqb prev DSID || eqb prev FRID))
 
 -- the bytes of a field without its closing 1E
 abbrev pub content_of : List ℕ → Field → List ℕ

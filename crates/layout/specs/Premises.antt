@@ -5,7 +5,7 @@ use Rattle.iso8211.specs.Field.{count_at, field_at}
 use Rattle.iso8211.specs.Premises.{FramedAt, RecordIn}
 use Rattle.iso8211.specs.File.{record_at}
 use Rattle.layout.specs.General.{comf_at}
-use Rattle.table.specs.Table.{FIRST}
+use Rattle.table.specs.Table.{first}
 use Rattle.layout.specs.Layout.{opens, follows, may_end, filled}
 use Rattle.layout.specs.Record.{content_at, kind_at}
 
@@ -31,7 +31,7 @@ pub record DspmThere (s : List ℕ) : Type 0 where
 -- what is known of a record in which every field is rightly placed, declared and filled by its subfields, and none is missing
 pub record Laid (update : Bool) (stage : ℕ) (marks s : List ℕ) (at : ℕ) : Type 0 where
   pub two : 2 ≤ count_at s at
-  pub head : kind_at s at 0 ≡ FIRST
+  pub head : kind_at s at 0 ≡ first
   pub opening : opens stage (kind_at s at 1) ≡ true
   pub order : (j : ℕ) → 2 ≤ j → j < count_at s at → follows update (kind_at s at (j - 1)) (kind_at s at j) ≡ true
   pub end : may_end (kind_at s at (count_at s at - 1)) ≡ true

@@ -16,7 +16,7 @@ use Rattle.reader.specs.Reader.{framed_front, front_of, cell_fault, work_answer,
 use Rattle.reader.specs.declared.front.Front.TheVariants.{Count}
 use Rattle.reader.proofs.ReaderLaws.{cell_good}
 use Rattle.judging.specs.Judge.{cell_verdict, judge_of}
-use Rattle.loader.proofs.ReadLaws.{judge_numbered}
+use Rattle.loader.proofs.ReadLaws.{judge_small}
 use Rattle.listingrows.specs.Text.{refused_text}
 use Rattle.listingrows.specs.Listing.{lines_of, framed_lines, listing_with, listing_of, JudgedCell}
 use Rattle.listingrows.proofs.RecordsLaws.{records_few}
@@ -52,7 +52,7 @@ judged s w a short is = record {
 
 -- the record named fits 32 bits
 pub judged_index : (s : List ℕ) (w : ℕ) (a : Answer) → a ≡ judge_of s w → a.index < 4294967296
-judged_index s w a is = rw is (judge_numbered s w 0).index_small
+judged_index s w a is = rw is (judge_small s w).index_small
 
 -- a cell that is not framed got 2, so no cell that got 0 prints nothing
 pub judge_broken : (s : List ℕ) (w k : ℕ) → length s ≤ 65536 → frame_of s ≡ Broken k → (judge_of s w).code ≡ 2

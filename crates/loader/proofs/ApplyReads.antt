@@ -1,10 +1,9 @@
--- Apply's sixteen bytes read as the four numbers of its answer: none of them passes four bytes, and with 3 and with 21 Number is the bytes
--- needed. Assumes nothing.
-use Prim.Native.Nat.{ℕ, zero, suc, ◌+◌, ◌-◌, ◌*◌, ◌≤◌}
+-- Apply's sixteen bytes read as the four numbers of its answer: none of them passes four bytes. Assumes nothing.
+use Prim.Native.Nat.{ℕ, zero, suc, ◌+◌, ◌-◌, ◌≤◌}
 use mathlib.Core.Bool.{Bool, true, false, cond, ◌&&◌}
 use mathlib.Core.List.{List, [], ◌∷◌}
 use mathlib.Core.Option.{Option, none, some}
-use mathlib.Core.Path.{◌≡◌, refl, ap, ◌∙◌}
+use mathlib.Core.Path.{◌≡◌, refl, ap}
 use native.Mathlib.Omega.{arith}
 use lib.ListN.{length}
 use lib.Dec.{eqb, ltb}
@@ -12,25 +11,22 @@ use Rattle.octets.specs.Number.{num_at}
 use Rattle.iso8211.specs.Record.{end_of}
 use Rattle.iso8211.specs.File.{record_at}
 use Rattle.fieldparts.specs.Same.{same_list}
-use Rattle.reader.specs.Reader.{cell_records, cell_fault, update_fault}
+use Rattle.reader.specs.Reader.{cell_fault, update_fault}
 use Rattle.items.specs.Item.{Item, item_name}
 use Rattle.names.specs.Held.{held_items}
 use Rattle.held.specs.Chart.{Header, Chart, chart_of}
-use Rattle.held.specs.Held.{held_of}
 use Rattle.edits.specs.InsertDelete.{insert_allowed}
 use Rattle.merge.specs.Update as merge
 use Rattle.changes.specs.Change.{Amendment, edit_of, Change, amendments_from, change_of}
 use Rattle.changes.specs.Follow.{chart_name, follow_code}
-use Rattle.changes.specs.Amend.{kinds_of, insert_code, identity_same, edit_allowed, modify_code, target_code, held_by, amendment_code, amendments_fault, change_fault, placed_in}
+use Rattle.changes.specs.Amend.{kinds_of, insert_code, identity_same, edit_allowed, modify_code, found_code, held_by, amendment_code, amendments_fault, change_fault, placed_in}
 use Rattle.changes.specs.Updated.{by_amendment, updated}
 use Rattle.verdict.specs.Verdict.{chart_topology}
-use Rattle.loader.specs.Admit.{cell_chart}
-use Rattle.loader.specs.Apply.{result_of, apply_of, changes_in, updated_by}
-use Rattle.loader.proofs.ReadLaws.{held_length, cell_few, items_few, numbered_work, numbered_held, update_few, numbered_opening}
+use Rattle.loader.specs.Apply.{result_of, apply_of}
+use Rattle.loader.proofs.ReadLaws.{held_length, cell_few, cond_least, items_few, small_work, small_held, update_few, small_opening}
 use Rattle.answers.specs.declared.refusal.Refusal.{Refusal}
 use Rattle.answers.specs.Sixteen.{answer_bytes}
-use Rattle.answers.proofs.NumbersLaws.{Needless, needless, needless_cond, Few, few_more, few_made, few_fine, few_cond, few_first}
-use Rattle.answers.proofs.NumbersLaws.{Numbered, numbered_filed, numbered_first, ReadsAs, bytes_read}
+use Rattle.answers.proofs.SmallLaws.{Few, few_more, few_made, few_cond, few_first, Small, small_filed, small_first, ReadsAs, bytes_read}
 
 -- ---- how many records and objects there are
 amendments_length : (n : ℕ) (s : List ℕ) (at : ℕ) → length (amendments_from n s at) ≡ n
@@ -63,7 +59,7 @@ module _ {A : Type 0} (key : A → ℕ) where
   changed_length n f [] = refl
   changed_length n f (a ∷ l) = ap suc (changed_length n f l)
 
-module _ {A U : Type 0} (by : merge.Updating A U) where
+module _ {A U : Type 0} (by : merge.Change A U) where
   obeyed_length : (u : U) (l : List A) → length (merge.obeyed by u l) ≤ suc (length l)
   unfolding merge.obeyed
   obeyed_length u l =
@@ -79,47 +75,46 @@ module _ {A U : Type 0} (by : merge.Updating A U) where
       let one = obeyed_length u held in let more = result_length (merge.obeyed by u held) us in omega arith
 
 -- ---- codes 9 to 16
-follow_needless : (h : Header) (u : Change) → Needless (follow_code h u)
+follow_least : (h : Header) (u : Change) → follow_code h u ≤ 22
 unfolding follow_code
-follow_needless h u =
-    needless_cond (same_list (chart_name h.dsid) (chart_name u.dsid))
-    (needless_cond (eqb u.dsid.edition h.dsid.edition)
-    (needless_cond (eqb u.dsid.number (h.dsid.number + 1))
-    (needless_cond (eqb u.aall h.aall && eqb u.nall h.nall) (needless 0 refl) (needless 12 refl)) (needless 11 refl)) (needless 10 refl)) (needless 9 refl)
+follow_least h u =
+    cond_least (same_list (chart_name h.dsid) (chart_name u.dsid)) _ _ 22
+    (cond_least (eqb u.dsid.edition h.dsid.edition) _ _ 22
+    (cond_least (eqb u.dsid.number (h.dsid.number + 1)) _ _ 22
+    (cond_least (eqb u.aall h.aall && eqb u.nall h.nall) 0 12 22 (omega arith) (omega arith)) (omega arith)) (omega arith)) (omega arith)
 
-insert_needless : (a : Amendment) → Needless (insert_code a)
+insert_least : (a : Amendment) → insert_code a ≤ 22
 unfolding insert_code
-insert_needless a =
-    needless_cond (eqb a.object.version 1)
-    (needless_cond (insert_allowed (kinds_of a.object.rcnm) (edit_of a)) (needless 0 refl) (needless 16 refl)) (needless 14 refl)
+insert_least a =
+    cond_least (eqb a.object.version 1) _ _ 22 (cond_least (insert_allowed (kinds_of a.object.rcnm) (edit_of a)) 0 16 22 (omega arith) (omega arith)) (omega arith)
 
-modify_needless : (a : Amendment) (held : Item) → Needless (modify_code a held)
+modify_least : (a : Amendment) (held : Item) → modify_code a held ≤ 22
 unfolding modify_code
-modify_needless a held =
-    needless_cond (eqb a.object.version (held.version + 1))
-    (needless_cond (identity_same a.object held) (needless_cond (edit_allowed a held) (needless 0 refl) (needless 16 refl)) (needless 15 refl)) (needless 14 refl)
+modify_least a held =
+    cond_least (eqb a.object.version (held.version + 1)) _ _ 22
+    (cond_least (identity_same a.object held) _ _ 22 (cond_least (edit_allowed a held) 0 16 22 (omega arith) (omega arith)) (omega arith)) (omega arith)
 
-target_needless : (a : Amendment) (held : Option Item) → Needless (target_code a held)
-unfolding target_code
-target_needless a none = needless_cond (eqb a.ruin 1) (insert_needless a) (needless 13 refl)
-target_needless a (some held) = needless_cond (eqb a.ruin 1) (needless 13 refl) (modify_needless a held)
+found_least : (a : Amendment) (held : Option Item) → found_code a held ≤ 22
+unfolding found_code
+found_least a none = cond_least (eqb a.ruin 1) _ _ 22 (insert_least a) (omega arith)
+found_least a (some held) = cond_least (eqb a.ruin 1) _ _ 22 (omega arith) (modify_least a held)
 
 amendments_few : (held : List Item) (k : ℕ) (us : List Amendment) → Few (k + length us) (amendments_fault held k us)
 unfolding amendments_fault amendment_code
-amendments_few held k [] = few_fine
+amendments_few held k [] = few_made 0 0 0 (omega arith) (omega arith)
 amendments_few held k (a ∷ us) =
-    few_first (few_made (amendment_code held a) k 0 (target_needless a (held_by held (item_name a.object))) (omega arith))
+    few_first (few_made (amendment_code held a) k 0 (found_least a (held_by held (item_name a.object))) (omega arith))
     (few_more (omega arith) (amendments_few held (k + 1) us))
 
 change_few : (c : Chart) (u : Change) → Few (2 + length u.amendments) (change_fault c u)
 unfolding change_fault
 change_few c u =
-    few_first (few_made (follow_code c.header u) 1 0 (follow_needless c.header u) (omega arith)) (amendments_few c.items 2 u.amendments)
+    few_first (few_made (follow_code c.header u) 1 0 (follow_least c.header u) (omega arith)) (amendments_few c.items 2 u.amendments)
 
 placed_few : {m : ℕ} (s : List ℕ) (r : Refusal) → Few m r → Few m (placed_in s r)
 unfolding placed_in
 placed_few s r few =
-    few_cond (eqb r.code 0) few_fine (few_made r.code r.index (record_at s r.index) few.code_few few.index_few)
+    few_cond (eqb r.code 0) (few_made 0 0 0 (omega arith) (omega arith)) (few_made r.code r.index (record_at s r.index) few.code_few few.index_few)
 
 change_placed : (cell : List ℕ) (n : ℕ) (update : List ℕ) (m : ℕ) → Few (m + 2) (placed_in update (change_fault (chart_of cell n) (change_of update m)))
 unfolding change_of
@@ -144,23 +139,20 @@ result_few cell n update m =
     let objects = objects_few cell n update m in
     few_more (omega arith) (items_few (num_at c.header.dspm 16 4) c.items)
 
--- ---- the answer's four numbers: with 3 Number is 16 bytes for each record of both files, with 21 the length of the result's held form
-pub apply_numbered : (cell update : List ℕ) (w o : ℕ)
-    → Numbered (16 * (cell_records cell + changes_in update)) (length (held_of (updated_by (cell_chart cell) update))) (apply_of cell update w o)
+-- ---- the answer's four numbers
+pub apply_small : (cell update : List ℕ) (w o : ℕ) → Small (apply_of cell update w o)
 unfolding apply_of
-apply_numbered cell update w o =
-    numbered_opening 1 cell _ (omega arith)
-    (λ n held first.
-    numbered_opening 2 update _ (omega arith)
-    (λ m come second.
-    numbered_first (numbered_work w (n + m) (omega arith) (omega arith))
-    (numbered_first (numbered_filed 1 (cell_fault cell n) (omega arith) (cell_few cell n) (omega arith))
-    (numbered_first (numbered_filed 2 (update_fault update m) (omega arith) (update_few update m) (omega arith))
-    (numbered_first (numbered_filed 2 _ (omega arith) (change_placed cell n update m) (omega arith))
-    (numbered_first (numbered_filed 3 _ (omega arith) (result_few cell n update m) (omega arith))
-    (numbered_held o (result_of cell n update m)
-    (ap (λ (i : ℕ). length (held_of (result_of cell i update (changes_in update)))) first ∙ ap (λ (j : ℕ). length (held_of (result_of cell n update j))) second))))))))
+apply_small cell update w o =
+    small_opening 1 cell _ (omega arith)
+    (λ n held.
+    small_opening 2 update _ (omega arith)
+    (λ m come.
+    small_first (small_work w (n + m) (omega arith))
+    (small_first (small_filed 1 (cell_fault cell n) (omega arith) (cell_few cell n) (omega arith))
+    (small_first (small_filed 2 (update_fault update m) (omega arith) (update_few update m) (omega arith))
+    (small_first (small_filed 2 _ (omega arith) (change_placed cell n update m) (omega arith))
+    (small_first (small_filed 3 _ (omega arith) (result_few cell n update m) (omega arith)) (small_held o (result_of cell n update m))))))))
 
 -- "fills a 16-byte answer (code, file, record, number, each 4 bytes, low byte first)"
 pub apply_reads : (cell update : List ℕ) (w o : ℕ) → ReadsAs (answer_bytes (apply_of cell update w o)) (apply_of cell update w o)
-apply_reads cell update w o = bytes_read (apply_of cell update w o) (apply_numbered cell update w o)
+apply_reads cell update w o = bytes_read (apply_of cell update w o) (apply_small cell update w o)

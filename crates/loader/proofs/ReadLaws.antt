@@ -1,4 +1,4 @@
--- The answer's sixteen bytes read as its four numbers: none of them passes four bytes, and with 3 and with 21 Number is the bytes needed. Assumes nothing.
+-- The answer's sixteen bytes read as its four numbers: none of them passes four bytes. Assumes nothing.
 use Prim.Native.Nat.{ℕ, zero, suc, ◌+◌, ◌-◌, ◌*◌, ◌≤◌}
 use mathlib.Core.Bool.{Bool, true, false, cond, ◌&&◌}
 use mathlib.Core.List.{List, [], ◌∷◌}
@@ -34,7 +34,7 @@ use Rattle.pointer.specs.Pointer.{names_code, lnams_code, pointer_code}
 use Rattle.answers.specs.First.{first_by}
 use Rattle.ring.specs.Ring.{node_in, rings_good, ring_code}
 use Rattle.topology.specs.Topology.{item_code, code_among, fault_from, topology_of, located, topology_fault}
-use Rattle.reader.specs.Reader.{framed_front, front_of, twice_refusal, counts_refusal, cell_fault, work_answer, fronted, opening, records_in, cell_records, update_fault}
+use Rattle.reader.specs.Reader.{framed_front, front_of, twice_refusal, counts_refusal, cell_fault, work_answer, fronted, opening, update_fault}
 use Rattle.reader.specs.declared.front.Front.{Front}
 use Rattle.reader.specs.declared.front.Front.TheVariants.{Count, Refused}
 use Rattle.judging.specs.Judge.{cell_verdict, judge_of}
@@ -42,30 +42,29 @@ use Rattle.held.specs.Chart.{Chart, chart_of}
 use Rattle.held.specs.Held.{held_of}
 use Rattle.held.specs.Limits.{fits}
 use Rattle.held.proofs.LimitsLaws.{fits_told}
-use Rattle.loader.specs.Admit.{held_answer, admit_of, cell_chart}
+use Rattle.loader.specs.Admit.{held_answer, admit_of}
 use Rattle.layout.specs.General.{comf_at}
 use Rattle.answers.specs.declared.refusal.Refusal.{Refusal}
 use Rattle.answers.specs.Answer.{answer, filed}
-use Rattle.answers.proofs.NumbersLaws.{Needless, needless, needless_cond, Few, few_more, few_made, few_fine, few_cond, few_first, Numbered, numbered_cond}
-use Rattle.answers.proofs.NumbersLaws.{numbered_made, numbered_unrefused, numbered_filed, numbered_first, ReadsAs, bytes_read}
+use Rattle.answers.proofs.SmallLaws.{Few, few_more, few_made, few_cond, few_first, Small, small_cond, small_made, small_filed, small_first, ReadsAs, bytes_read}
 use Rattle.answers.specs.declared.answer.Answer.{Answer}
 use Rattle.answers.specs.Sixteen.{answer_bytes}
 
 -- ---- codes 4 to 8
 records_few_here : (n : ℕ) (update : Bool) (marks s : List ℕ) (k at : ℕ) (st : State) → Few (k + n) (records_fault n update marks s k at st)
 unfolding records_fault
-records_few_here zero update marks s k at st = few_cond (ltb st.stage 2) (few_made 5 k (length s) (needless 5 refl) (omega arith)) few_fine
+records_few_here zero update marks s k at st = few_cond (ltb st.stage 2) (few_made 5 k (length s) (omega arith) (omega arith)) (few_made 0 0 0 (omega arith) (omega arith))
 records_few_here (suc n) update marks s k at st =
     few_cond (eqb (layout_fault update st.stage marks s at) 0)
     (few_cond (eqb (value_fault update st.aall st.nall s at) 0)
     (few_more (omega arith) (records_few_here n update marks s (k + 1) (end_of s at) (passed_state update s at st)))
-    (few_made 6 k (value_fault update st.aall st.nall s at) (needless 6 refl) (omega arith)))
-    (few_made 5 k (layout_fault update st.stage marks s at) (needless 5 refl) (omega arith))
+    (few_made 6 k (value_fault update st.aall st.nall s at) (omega arith) (omega arith)))
+    (few_made 5 k (layout_fault update st.stage marks s at) (omega arith) (omega arith))
 
 read_few : (update : Bool) (s : List ℕ) (n : ℕ) → Few (n + 3) (read_fault update s n)
 unfolding read_fault
 read_few update s n =
-    few_cond (eqb (length (described_of s)) 0) (few_made 4 0 0 (needless 4 refl) (omega arith))
+    few_cond (eqb (length (described_of s)) 0) (few_made 4 0 0 (omega arith) (omega arith))
     (few_more (omega arith) (records_few_here (n - 1) update (described_of s) s 1 (record_at s 1) first_state))
 
 items_length : (n : ℕ) (s : List ℕ) (at : ℕ) → length (items_from n s at) ≡ n
@@ -97,11 +96,12 @@ twice_few update s n =
 twice_refused : (update : Bool) (s : List ℕ) (n : ℕ) → Few (n + 3) (twice_refusal (twice_of update s n))
 unfolding twice_refusal
 twice_refused update s n =
-    few_cond (eqb (twice_of update s n).index 0) few_fine (few_made 7 (twice_of update s n).index (twice_of update s n).offset (needless 7 refl) (twice_few update s n))
+    few_cond (eqb (twice_of update s n).index 0) (few_made 0 0 0 (omega arith) (omega arith))
+    (few_made 7 (twice_of update s n).index (twice_of update s n).offset (omega arith) (twice_few update s n))
 
 counts_refused : (s : List ℕ) (n : ℕ) → Few (n + 3) (counts_refusal s n)
 unfolding counts_refusal
-counts_refused s n = few_cond (counts_good s n) few_fine (few_made 8 1 (record_at s 1) (needless 8 refl) (omega arith))
+counts_refused s n = few_cond (counts_good s n) (few_made 0 0 0 (omega arith) (omega arith)) (few_made 8 1 (record_at s 1) (omega arith) (omega arith))
 
 pub cell_few : (s : List ℕ) (n : ℕ) → Few (n + 3) (cell_fault s n)
 unfolding cell_fault
@@ -112,52 +112,55 @@ unfolding update_fault
 update_few s n = few_first (read_few true s n) (twice_refused true s n)
 
 -- ---- codes 17 to 19
-found_needless : (x : Found) → Needless (found_code x)
+pub cond_least : (b : Bool) (x y m : ℕ) → x ≤ m → y ≤ m → cond b x y ≤ m
+cond_least true x y m h k = h
+cond_least false x y m h k = k
+
+found_least : (x : Found) → found_code x ≤ 18
 unfolding found_code
-found_needless (At k) = needless 0 refl
-found_needless Nothing = needless 18 refl
+found_least (At k) = omega arith
+found_least Nothing = omega arith
 
-names_needless : (place : ℕ → Found) (es : List (List ℕ)) → Needless (names_code place es)
+names_least : (place : ℕ → Found) (es : List (List ℕ)) → names_code place es ≤ 18
 unfolding names_code first_by
-names_needless place [] = needless 0 refl
-names_needless place (e ∷ es) = needless_cond (eqb (found_code (place (name_in e))) 0) (names_needless place es) (found_needless (place (name_in e)))
+names_least place [] = omega arith
+names_least place (e ∷ es) = cond_least (eqb (found_code (place (name_in e))) 0) _ _ 18 (names_least place es) (found_least (place (name_in e)))
 
-lnams_needless : (object : ℕ → Bool) (es : List (List ℕ)) → Needless (lnams_code object es)
+lnams_least : (object : ℕ → Bool) (es : List (List ℕ)) → lnams_code object es ≤ 18
 unfolding lnams_code
-lnams_needless object [] = needless 0 refl
-lnams_needless object (e ∷ es) = needless_cond (object (num_at e 0 8)) (lnams_needless object es) (needless 18 refl)
+lnams_least object [] = omega arith
+lnams_least object (e ∷ es) = cond_least (object (num_at e 0 8)) _ _ 18 (lnams_least object es) (omega arith)
 
-pointer_needless : (place : ℕ → Found) (object : ℕ → Bool) (i : Item) → Needless (pointer_code place object i)
+pointer_least : (place : ℕ → Found) (object : ℕ → Bool) (i : Item) → pointer_code place object i ≤ 18
 unfolding pointer_code first_by
-pointer_needless place object i =
-    needless_cond (eqb i.rcnm 100)
-    (needless_cond (eqb (lnams_code object (i.lists FFPT)) 0) (names_needless place (i.lists FSPT)) (lnams_needless object (i.lists FFPT)))
-    (names_needless place (i.lists VRPT))
+pointer_least place object i =
+    cond_least (eqb i.rcnm 100) _ _ 18
+    (cond_least (eqb (lnams_code object (i.lists FFPT)) 0) _ _ 18 (names_least place (i.lists FSPT)) (lnams_least object (i.lists FFPT)))
+    (names_least place (i.lists VRPT))
 
-ring_needless : (node : ℕ → ℕ → ℕ) (i : Item) → Needless (ring_code node i)
+ring_least : (node : ℕ → ℕ → ℕ) (i : Item) → ring_code node i ≤ 19
 unfolding ring_code
-ring_needless node i =
-    needless_cond (eqb i.rcnm 100 && eqb i.prim 3) (needless_cond (rings_good node (i.lists FSPT)) (needless 0 refl) (needless 19 refl)) (needless 0 refl)
+ring_least node i =
+    cond_least (eqb i.rcnm 100 && eqb i.prim 3) _ _ 19 (cond_least (rings_good node (i.lists FSPT)) 0 19 19 (omega arith) (omega arith)) (omega arith)
 
-shape_needless : (comf : ℕ) (i : Item) → Needless (shape_code comf i)
-unfolding shape_code
-shape_needless comf i = needless_cond (shape_good comf i) (needless 0 refl) (needless 17 refl)
+item_least : (comf : ℕ) (all : List Item) (i : Item) → code_among comf all i ≤ 22
+unfolding code_among item_code first_by shape_code
+item_least comf all i =
+    let shape : shape_code comf i ≤ 22 = cond_least (shape_good comf i) 0 17 22 (omega arith) (omega arith) in
+    let pointer = pointer_least (place_in all) (object_in all) i in
+    let ring = ring_least (node_in all) i in
+    cond_least (eqb (shape_code comf i) 0) _ _ 22
+    (cond_least (eqb (pointer_code (place_in all) (object_in all) i) 0) _ _ 22 (omega arith) (omega arith)) shape
 
-item_needless : (comf : ℕ) (all : List Item) (i : Item) → Needless (code_among comf all i)
-unfolding code_among item_code first_by
-item_needless comf all i =
-    needless_cond (eqb (shape_code comf i) 0)
-    (needless_cond (eqb (pointer_code (place_in all) (object_in all) i) 0) (ring_needless (node_in all) i) (pointer_needless (place_in all) (object_in all) i))
-    (shape_needless comf i)
-
-fault_few : (code : Item → ℕ) → ((i : Item) → Needless (code i)) → (k : ℕ) (is : List Item) → Few (k + length is) (fault_from code k is)
+fault_few : (code : Item → ℕ) → ((i : Item) → code i ≤ 22) → (k : ℕ) (is : List Item) → Few (k + length is) (fault_from code k is)
 unfolding fault_from
-fault_few code each k [] = few_fine
-fault_few code each k (i ∷ is) = few_cond (eqb (code i) 0) (few_more (omega arith) (fault_few code each (k + 1) is)) (few_made (code i) k 0 (each i) (omega arith))
+fault_few code least k [] = few_made 0 0 0 (omega arith) (omega arith)
+fault_few code least k (i ∷ is) =
+    few_cond (eqb (code i) 0) (few_more (omega arith) (fault_few code least (k + 1) is)) (few_made (code i) k 0 (least i) (omega arith))
 
 pub items_few : (comf : ℕ) (all : List Item) → Few (3 + length all) (topology_of comf all)
 unfolding topology_of
-items_few comf all = fault_few (code_among comf all) (item_needless comf all) 3 all
+items_few comf all = fault_few (code_among comf all) (item_least comf all) 3 all
 
 insert_length : (i : Item) (is : List Item) → length (insert_by item_name i is) ≡ suc (length is)
 unfolding insert_by
@@ -191,83 +194,61 @@ verdict_few : (s : List ℕ) (n : ℕ) → Few (n + 3) (cell_verdict s n)
 unfolding cell_verdict
 verdict_few s n = few_first (cell_few s n) (topology_few s n)
 
--- ---- what begins with the front of a file: codes 1 and 2 are small, and a framed file has no more records than bytes
+-- what begins with the front of a file: codes 1 and 2 are small, and a framed file has no more records than bytes
 framed_cases : (P : Front → Type 0) (file : ℕ) (s : List ℕ) (f : Framed) → f ≡ frame_of s → length s ≤ 5242880 → file ≤ 3
-    → ((a : Answer) → ((work room : ℕ) → Numbered work room a) → P (Refused a)) → ((n : ℕ) → n ≤ 5242880 → P (Count n)) → P (framed_front file s f)
+    → ((a : Answer) → Small a → P (Refused a)) → ((n : ℕ) → n ≤ 5242880 → P (Count n)) → P (framed_front file s f)
 unfolding framed_front
 framed_cases P file s (Records n) e short low refused count = let few = records_few s n (sym e) in count n (omega arith)
 framed_cases P file s (Broken k) e short low refused count =
     let few = broken_few s k (sym e) in
-    refused (answer 2 file k 0 (record_at s k)) (λ work room. numbered_made 2 file k 0 (record_at s k) (needless 2 refl) low (omega arith) (omega arith))
+    refused (answer 2 file k 0 (record_at s k)) (small_made 2 file k 0 (record_at s k) (omega arith) low (omega arith) (omega arith))
 
-pub front_cases : (P : Front → Type 0) (file : ℕ) (s : List ℕ) → file ≤ 3 → ((a : Answer) → ((work room : ℕ) → Numbered work room a) → P (Refused a))
-    → ((n : ℕ) → n ≤ 5242880 → P (Count n)) → P (front_of file s)
+pub front_cases : (P : Front → Type 0) (file : ℕ) (s : List ℕ) → file ≤ 3 → ((a : Answer) → Small a → P (Refused a)) → ((n : ℕ) → n ≤ 5242880 → P (Count n))
+    → P (front_of file s)
 unfolding front_of
 front_cases P file s low refused count =
-    ⊎_elim (λ (t : ltb 5242880 (length s) ≡ true). rw t (refused (answer 1 file 0 0 0) (λ work room. numbered_made 1 file 0 0 0 (needless 1 refl) low (omega arith) (omega arith))))
+    ⊎_elim (λ (t : ltb 5242880 (length s) ≡ true). rw t (refused (answer 1 file 0 0 0) (small_made 1 file 0 0 0 (omega arith) low (omega arith) (omega arith))))
     (λ (t : ltb 5242880 (length s) ≡ false). rw t (framed_cases P file s (frame_of s) refl (ltb-false _ _ t) low refused count)) (true_or_false (ltb 5242880 (length s)))
 
-module _ {work room : ℕ} where
-  -- what comes of an opened file, which has so many records
-  pub numbered_opening : (file : ℕ) (s : List ℕ) (on : ℕ → Answer) → file ≤ 3
-      → ((n : ℕ) → n ≤ 5242880 → records_in (front_of file s) ≡ n → Numbered work room (on n)) → Numbered work room (opening file s on)
-  unfolding fronted records_in
-  numbered_opening file s on low rest =
-      front_cases (λ f. f ≡ front_of file s → Numbered work room (fronted (λ (a : Answer). a) on f)) file s low (λ a told e. told work room)
-      (λ n few e. rest n few (sym (ap records_in e))) refl
+-- what comes of an opened file
+pub small_opening : (file : ℕ) (s : List ℕ) (on : ℕ → Answer) → file ≤ 3 → ((n : ℕ) → n ≤ 5242880 → Small (on n)) → Small (opening file s on)
+unfolding fronted
+small_opening file s on low rest = front_cases (λ f. Small (fronted (λ (a : Answer). a) on f)) file s low (λ a small. small) rest
 
-  -- 16 bytes for each of n records, n at most those of two files
-  pub numbered_work : (w n : ℕ) → n ≤ 10485760 → work ≡ 16 * n → Numbered work room (work_answer w n)
-  unfolding work_answer
-  numbered_work w n h needs =
-      numbered_cond (ltb w (16 * n)) (record {
-        code_small = omega arith;
-        file_small = omega arith;
-        index_small = omega arith;
-        number_small = omega arith;
-        work_needed_lem = λ c. sym needs;
-        room_needed = λ (c : ◌≡◌ {A = ℕ} 3 21). absurd (omega arith);
-      })
-      numbered_unrefused
+-- 16 bytes for each of n records, n at most those of two files
+pub small_work : (w n : ℕ) → n ≤ 10485760 → Small (work_answer w n)
+unfolding work_answer
+small_work w n h =
+    small_cond (ltb w (16 * n)) (small_made 3 0 0 (16 * n) 0 (omega arith) (omega arith) (omega arith) (omega arith))
+    (small_made 0 0 0 0 0 (omega arith) (omega arith) (omega arith) (omega arith))
 
-  numbered_verdict : (cell : List ℕ) (n : ℕ) → n ≤ 5242880 → Numbered work room (filed 1 (cell_verdict cell n))
-  numbered_verdict cell n h = numbered_filed 1 (cell_verdict cell n) (omega arith) (verdict_few cell n) (omega arith)
+pub small_verdict : (cell : List ℕ) (n : ℕ) → n ≤ 5242880 → Small (filed 1 (cell_verdict cell n))
+small_verdict cell n h = small_filed 1 (cell_verdict cell n) (omega arith) (verdict_few cell n) (omega arith)
 
-  -- what fits has a length of four bytes
-  pub numbered_held : (o : ℕ) (c : Chart) → room ≡ length (held_of c) → Numbered work room (held_answer o c)
-  unfolding held_answer
-  numbered_held o c needs =
-      ⊎_elim (λ (f : fits c ≡ true).
-      let n = length (held_of c) in
-      let short = (fits_told c f).short in
-      rw f (numbered_cond (ltb o n) (record {
-        code_small = omega arith;
-        file_small = omega arith;
-        index_small = omega arith;
-        number_small = omega arith;
-        work_needed_lem = λ (h : ◌≡◌ {A = ℕ} 21 3). absurd (omega arith);
-        room_needed = λ h. sym needs;
-      })
-      (numbered_made 0 0 0 n 0 (needless 0 refl) (omega arith) (omega arith) (omega arith))))
-      (λ (f : fits c ≡ false). rw f (numbered_made 20 3 0 0 0 (needless 20 refl) (omega arith) (omega arith) (omega arith))) (true_or_false (fits c))
-
--- ---- the calls: with 3 Number is 16 bytes for each record of the cell, whatever the output; with 21 the length of the held form
-pub judge_numbered : (cell : List ℕ) (w room : ℕ) → Numbered (16 * cell_records cell) room (judge_of cell w)
+pub judge_small : (cell : List ℕ) (w : ℕ) → Small (judge_of cell w)
 unfolding judge_of
-judge_numbered cell w room =
-    numbered_opening 1 cell _ (omega arith) (λ n few is. numbered_first (numbered_work w n (omega arith) (omega arith)) (numbered_verdict cell n few))
+judge_small cell w = small_opening 1 cell _ (omega arith) (λ n h. small_first (small_work w n (omega arith)) (small_verdict cell n h))
 
-pub admit_numbered : (cell : List ℕ) (w o : ℕ) → Numbered (16 * cell_records cell) (length (held_of (cell_chart cell))) (admit_of cell w o)
+-- ---- the same of Admit: what fits has a length of four bytes
+pub small_held : (o : ℕ) (c : Chart) → Small (held_answer o c)
+unfolding held_answer
+small_held o c =
+    ⊎_elim (λ (f : fits c ≡ true).
+    let n = length (held_of c) in
+    let short = (fits_told c f).short in
+    rw f (small_cond (ltb o n) (small_made 21 0 0 n 0 (omega arith) (omega arith) (omega arith) (omega arith))
+    (small_made 0 0 0 n 0 (omega arith) (omega arith) (omega arith) (omega arith))))
+    (λ (f : fits c ≡ false). rw f (small_made 20 3 0 0 0 (omega arith) (omega arith) (omega arith) (omega arith))) (true_or_false (fits c))
+
+pub admit_small : (cell : List ℕ) (w o : ℕ) → Small (admit_of cell w o)
 unfolding admit_of
-admit_numbered cell w o =
-    numbered_opening 1 cell _ (omega arith)
-    (λ n few is.
-    numbered_first (numbered_work w n (omega arith) (omega arith))
-    (numbered_first (numbered_verdict cell n few) (numbered_held o (chart_of cell n) (ap (λ (k : ℕ). length (held_of (chart_of cell k))) is))))
+admit_small cell w o =
+    small_opening 1 cell _ (omega arith)
+    (λ n h. small_first (small_work w n (omega arith)) (small_first (small_verdict cell n h) (small_held o (chart_of cell n))))
 
 -- "fills a 16-byte answer (code, file, record, number, each 4 bytes, low byte first)"
 pub answer_reads : (cell : List ℕ) (w : ℕ) → ReadsAs (answer_bytes (judge_of cell w)) (judge_of cell w)
-answer_reads cell w = bytes_read (judge_of cell w) (judge_numbered cell w 0)
+answer_reads cell w = bytes_read (judge_of cell w) (judge_small cell w)
 
 pub admit_reads : (cell : List ℕ) (w o : ℕ) → ReadsAs (answer_bytes (admit_of cell w o)) (admit_of cell w o)
-admit_reads cell w o = bytes_read (admit_of cell w o) (admit_numbered cell w o)
+admit_reads cell w o = bytes_read (admit_of cell w o) (admit_small cell w o)

@@ -4,7 +4,7 @@ use Rattle.answers.specs.Codes.{SIZE, ROOM}
 use Rattle.answers.specs.Answer.{answer, filed}
 use Rattle.answers.specs.First.{first_answer}
 use Rattle.answers.specs.declared.answer.Answer.{Answer}
-use Rattle.reader.specs.Reader.{opening, cell_records, work_answer}
+use Rattle.reader.specs.Reader.{opening, count_in, work_answer}
 use Rattle.held.specs.Chart.{Chart, chart_of}
 use Rattle.held.specs.Held.{held_of}
 use Rattle.held.specs.Limits.{fits}
@@ -31,7 +31,7 @@ admit_of cell w o =
 
 -- what a cell means, as far as it can be read
 abbrev pub cell_chart : List ℕ → Chart
-cell_chart s = chart_of s (cell_records s)
+cell_chart s = chart_of s (count_in s)
 
 unfoldable pub admit_area : List ℕ → ℕ → List ℕ → List ℕ
 admit_area cell w out = area_by (admit_of cell w (length out)) (cell_chart cell) out

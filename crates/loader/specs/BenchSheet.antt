@@ -165,5 +165,5 @@ unfolding item node end edge along_edge area triangle loops isolated vector held
     is_feature list_piece list_pieces vrid_bytes vector_pieces feature_pieces item_pieces flatten
     modifying outcome edited_by_control edited_by_label gone come allowed edited edited_by label_of is_removal named change finds changes changes_find
     is_attributes is_none coordinates control_of list_allowed list_edited allowed_at lists_allowed lists_edited
-    held_by kinds_of identity_same edit_allowed modify_code amend.target_code amendment_code amended
+    held_by kinds_of identity_same edit_allowed modify_code amend.found_code amendment_code amended
 bench_sheet = refl

@@ -8,7 +8,7 @@ use native.Mathlib.Omega.{arith}
 use lib.Dec.{eqb}
 use borrow.Author.Tests.{eq-eqb}
 use Rattle.octets.proofs.Cases.{true_or_false}
-use Rattle.merge.specs.Update.{Updating, without, result, unnamed}
+use Rattle.merge.specs.Update.{Change, without, result, unnamed}
 use Rattle.merge.specs.Updated.{Rules, worked, updated, Rising, Named, AllMade, made_none, made_more, Apart, rules_of, AllFit}
 use Rattle.merge.proofs.UpdatedLaws.{lt_or_le, worked_past, worked_new, worked_gone, worked_edit}
 use Rattle.merge.proofs.UpdateLaws.{result_updated}
@@ -48,12 +48,12 @@ module _ {A U : Type 0} (by : Rules A U) (named : Named by) (u : U) (e : by.key 
   worked_unnamed [] = rw (eq-eqb (by.key (by.made u)) (by.name u) e)
   worked_unnamed (a ∷ l) = unnamed_by a l (worked_unnamed l) (lt_or_le (by.key a) (by.name u)) (lt_or_le (by.name u) (by.key a)) (true_or_false (by.gone u))
 
-unnamed_without : {A U : Type 0} (by : Updating A U) (us : List U) (n : ℕ) (l : List A) → unnamed by us (without by.key n l) ≡ without by.key n (unnamed by us l)
+unnamed_without : {A U : Type 0} (by : Change A U) (us : List U) (n : ℕ) (l : List A) → unnamed by us (without by.key n l) ≡ without by.key n (unnamed by us l)
 unfolding unnamed
 unnamed_without by [] n l = refl
 unnamed_without by (u ∷ us) n l = rw (without_comm by.key (by.name u) n l) (unnamed_without by us n (without by.key (by.name u) l))
 
-unnamed_updated : {A U : Type 0} (by : Updating A U) (held : List A) (us : List U) → Named (rules_of by) → AllMade (rules_of by) us
+unnamed_updated : {A U : Type 0} (by : Change A U) (held : List A) (us : List U) → Named (rules_of by) → AllMade (rules_of by) us
     → unnamed by us (updated (rules_of by) held us) ≡ unnamed by us held
 unfolding unnamed updated
 unnamed_updated by held [] named made_none = refl
@@ -66,7 +66,7 @@ unnamed_updated by held (u ∷ us) named (made_more e made) =
     )
 
 -- what the update doesn't name is in the result as it was, in the same order, and nothing else is there that it doesn't name
-pub unnamed_kept : {A U : Type 0} (by : Updating A U) (held : List A) (us : List U) → Named (rules_of by) → Rising by.key held
+pub unnamed_kept : {A U : Type 0} (by : Change A U) (held : List A) (us : List U) → Named (rules_of by) → Rising by.key held
     → AllMade (rules_of by) us → Apart by.name us → AllFit by held us
     → unnamed by us (result by held us) ≡ unnamed by us held
 unnamed_kept by held us named so made apart fit = rw (result_updated by named held us so made apart fit) (unnamed_updated by held us named made)

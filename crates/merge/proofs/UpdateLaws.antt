@@ -11,7 +11,7 @@ use borrow.Author.Tests.{lt-ltb, le-ltb, ne_eqb, eq-eqb}
 use Rattle.octets.proofs.Cases.{true_or_false}
 use Rattle.merge.specs.Updated.{rules_of, worked, updated, Over, over_none, over_more, Rising, rise_none, rise_more, Named, AllMade, made_none, made_more, Differs}
 use Rattle.merge.specs.Updated.{diff_none, diff_more, Apart, apart_none, apart_more, AllFit, fit_none, fit_more}
-use Rattle.merge.specs.Update.{Updating, placed, without, changed, obeyed, result}
+use Rattle.merge.specs.Update.{Change, placed, without, changed, obeyed, result}
 use Rattle.merge.specs.Targets.{holds, target_good}
 use Rattle.merge.proofs.UpdatedLaws.{lt_or_le, worked_past, worked_new, worked_gone, worked_edit, over_less, rising_worked, rising_updated, worked_comm}
 
@@ -42,7 +42,7 @@ nothing_held : {A : Type 0} (key : A → ℕ) (n : ℕ) → holds key n [] ≡ t
 unfolding holds
 nothing_held key n e = true_false (sym e)
 
-module _ {A U : Type 0} (by : Updating A U) (u : U) where
+module _ {A U : Type 0} (by : Change A U) (u : U) where
   -- ---- insert of a name that isn't held
   placed_by : (a : A) (l : List A) → by.key (by.made u) ≡ by.name u → holds by.key (by.name u) (a ∷ l) ≡ false
       → (holds by.key (by.name u) l ≡ false → placed by.key (by.made u) l ≡ worked (rules_of by) u l)
@@ -130,7 +130,7 @@ module _ {A U : Type 0} (by : Updating A U) (u : U) where
       (true_or_false (eqb (by.ruin u) 1))
 
 -- ---- whether a name is held doesn't hang on changes of other names
-module _ {A U : Type 0} (by : Updating A U) (named : Named (rules_of by)) (n : ℕ) (u : U) (other : n ≡ by.name u → ⊥) (e : by.key (by.made u) ≡ by.name u) where
+module _ {A U : Type 0} (by : Change A U) (named : Named (rules_of by)) (n : ℕ) (u : U) (other : n ≡ by.name u → ⊥) (e : by.key (by.made u) ≡ by.name u) where
   holds_by : (a : A) (l : List A) → holds by.key n (worked (rules_of by) u l) ≡ holds by.key n l
       → (by.key a < by.name u) ⊎ (by.name u ≤ by.key a) → (by.name u < by.key a) ⊎ (by.key a ≤ by.name u)
       → (eqb (by.ruin u) 2 ≡ true) ⊎ (eqb (by.ruin u) 2 ≡ false) → holds by.key n (worked (rules_of by) u (a ∷ l)) ≡ holds by.key n (a ∷ l)
@@ -149,7 +149,7 @@ module _ {A U : Type 0} (by : Updating A U) (named : Named (rules_of by)) (n : �
   holds_worked [] = rw (e, ne_eqb (by.name u) n (λ z. other (sym z)))
   holds_worked (a ∷ l) = holds_by a l (holds_worked l) (lt_or_le (by.key a) (by.name u)) (lt_or_le (by.name u) (by.key a)) (true_or_false (eqb (by.ruin u) 2))
 
-module _ {A U : Type 0} (by : Updating A U) (named : Named (rules_of by)) where
+module _ {A U : Type 0} (by : Change A U) (named : Named (rules_of by)) where
   fit_worked : (held : List A) (u : U) (us : List U) → by.key (by.made u) ≡ by.name u → Differs by.name (by.name u) us → AllFit by held us
       → AllFit by (worked (rules_of by) u held) us
   unfolding target_good

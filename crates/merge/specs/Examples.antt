@@ -1,6 +1,6 @@
 -- Worked examples. Assumes nothing.
 use Rattle.std.specs.Prelude.{ℕ, ◌+◌, ◌*◌, ◌/◌, ◌%◌, true, false, List, [], ◌∷◌, ◌≡◌, refl}
-use Rattle.merge.specs.Update.{Updating, placed, without, changed, obeyed, result, unnamed}
+use Rattle.merge.specs.Update.{Change, placed, without, changed, obeyed, result, unnamed}
 use Rattle.merge.specs.Targets.{holds, target_good}
 use Rattle.merge.specs.Updated.{worked, updated}
 use Rattle.merge.specs.Words.{result_words, modifies, deletes, has_name}
@@ -8,7 +8,7 @@ use Rattle.items.specs.Word.{marked}
 use Rattle.merge.specs.Places.{joined, single, double}
 
 -- ---- an update record by record: 100 * name + value is held; a change is 10,000 * RUIN + 100 * name + value, and a modify adds its value
-abbrev by_numbers : Updating ℕ ℕ
+abbrev by_numbers : Change ℕ ℕ
 by_numbers = record {
   key = λ (a : ℕ). a / 100;
   name = λ (u : ℕ). u / 100 % 100;

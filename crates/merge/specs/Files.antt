@@ -8,7 +8,7 @@ use Rattle.items.specs.Word.{name_of, word_offset, marked}
 use Rattle.names.specs.NameWords.{name_words}
 use Rattle.names.specs.Premises.{Readable}
 use Rattle.names.specs.Names.{first_item, twice_of}
-use Rattle.merge.specs.Update.{Updating}
+use Rattle.merge.specs.Update.{Change}
 
 -- a cell a of n records and an update b of m, neither with a name twice; in the second half of the work area stand the words of the cell, then
 -- those of the update, each in held order
@@ -23,7 +23,7 @@ pub record Brought (a : List ℕ) (n : ℕ) (b : List ℕ) (m : ℕ) (work : Lis
 
 -- the records of the update b by their words. A is what words stand for: `one` is that of a word of the cell, or of a word of the update with
 -- its mark set; `edit` is what the record of a word makes of what is held
-abbrev pub change_by : {A : Type 0} → List ℕ → (A → ℕ) → (ℕ → A) → (ℕ → A → A) → Updating A ℕ
+abbrev pub change_by : {A : Type 0} → List ℕ → (A → ℕ) → (ℕ → A) → (ℕ → A → A) → Change A ℕ
 change_by b key one edit = record {
   key = key;
   name = name_of;

@@ -1,7 +1,7 @@
 -- The update's result as proofs take it: a walk along the names, and what is asked of the lists for it to be `result`. Nothing here need be
 -- believed. Assumes nothing.
 use Rattle.std.specs.Prelude.{ℕ, ◌<◌, Bool, true, cond, List, [], ◌∷◌, ◌≡◌, ltb, eqb}
-use Rattle.merge.specs.Update.{Updating}
+use Rattle.merge.specs.Update.{Change}
 use Rattle.merge.specs.Targets.{target_good}
 
 -- of a change the walk asks only whether it deletes: it inserts where its name isn't held
@@ -12,7 +12,7 @@ pub record Rules (A U : Type 0) : Type 0 where
   pub made : U → A
   pub edit : U → A → A
 
-abbrev pub rules_of : {A U : Type 0} → Updating A U → Rules A U
+abbrev pub rules_of : {A U : Type 0} → Change A U → Rules A U
 rules_of {A} {U} by = record { key = by.key; name = by.name; gone = λ (u : U). eqb (by.ruin u) 2; made = by.made; edit = by.edit }
 
 -- one change: what has its name goes, or is modified, where it stands; where nothing has it, what the change brings comes in, in front of the
@@ -59,6 +59,6 @@ pub data Apart {U : Type 0} (name : U → ℕ) : List U → Type 0 where
   apart_more : {u : U} {us : List U} → Differs name (name u) us → Apart name us → Apart name (u ∷ us)
 
 -- each of these changes has a good target in what is held before all of them
-pub data AllFit {A U : Type 0} (by : Updating A U) (held : List A) : List U → Type 0 where
+pub data AllFit {A U : Type 0} (by : Change A U) (held : List A) : List U → Type 0 where
   fit_none : AllFit by held []
   fit_more : {u : U} {us : List U} → target_good by held u ≡ true → AllFit by held us → AllFit by held (u ∷ us)

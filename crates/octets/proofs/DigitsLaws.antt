@@ -4,7 +4,7 @@ use native.Mathlib.Nat.{sub-zero, pow-le-pow_right, mod-one}
 use native.Mathlib.Nat.{div-div-eq-div-mul, one-le-pow}
 use borrow.Author.Tests.{lt-leb}
 use Rattle.octets.specs.Number.{byte_at, bytes_of}
-use Rattle.octets.specs.Digits.{is_digit, no_number, digits_from, number_at, digits_of, fewest_from, fewest}
+use Rattle.octets.specs.Digits.{is_digit, none, digits_from, number_at, digits_of, fewest_from, fewest}
 use Rattle.octets.specs.Premises.{Number, Sure}
 use Rattle.octets.specs.Area.{Has, Wrote}
 use Rattle.octets.proofs.AreaLaws.{has_head, has_tail, wrote_none, wrote_as, set_sets}
@@ -29,7 +29,7 @@ digits_next : (n m : ℕ) (s : List ℕ) (i led : ℕ) → n ≡ suc m → is_di
 unfolding digits_from
 digits_next n m s i led e is = rw (e, is)
 
-digits_stop : (n m : ℕ) (s : List ℕ) (i led : ℕ) → n ≡ suc m → is_digit (byte_at s i) ≡ false → digits_from n s i led ≡ no_number
+digits_stop : (n m : ℕ) (s : List ℕ) (i led : ℕ) → n ≡ suc m → is_digit (byte_at s i) ≡ false → digits_from n s i led ≡ none
 unfolding digits_from
 digits_stop n m s i led e is = rw (e, is)
 
@@ -39,10 +39,10 @@ unfolding number_at
 digits_start s at n = rw (sub-zero n, add-zero at)
 
 module _ (s : List ℕ) (at n k led b : ℕ) (more : k < n) (so : number_at s at n ≡ digits_from (n - k) s (at + k) led) (byte : b ≡ byte_at s (at + k)) where
-  pub turn_low : b < 48 → Number s at n no_number
+  pub turn_low : b < 48 → Number s at n none
   turn_low h = record { is = sym (so ∙ digits_stop (n - k) (n - (k + 1)) s (at + k) led (omega arith) (rw (← byte) (digit_low b h))); most = omega arith }
 
-  pub turn_high : 57 < b → Number s at n no_number
+  pub turn_high : 57 < b → Number s at n none
   turn_high h = record { is = sym (so ∙ digits_stop (n - k) (n - (k + 1)) s (at + k) led (omega arith) (rw (← byte) (digit_high b h))); most = omega arith }
 
   pub turn_on : 48 ≤ b → b ≤ 57 → number_at s at n ≡ digits_from (n - (k + 1)) s (at + (k + 1)) (led * 10 + (b - 48))
@@ -70,13 +70,13 @@ unfolding is_digit
 is_digit_lem b h = let z = both _ _ h in (leb-true 48 b z.0, leb-true b 57 z.1)
 
 -- the walk goes on only over a digit
-pub goes_on : (n : ℕ) (s : List ℕ) (i led : ℕ) → digits_from (suc n) s i led < no_number
+pub goes_on : (n : ℕ) (s : List ℕ) (i led : ℕ) → digits_from (suc n) s i led < none
     → (48 ≤ byte_at s i) × ((byte_at s i ≤ 57) × (digits_from (suc n) s i led ≡ digits_from n s (i + 1) (led * 10 + (byte_at s i - 48))))
 unfolding digits_from
 goes_on n s i led h =
     ⊎_elim
     (λ (e : is_digit (byte_at s i) ≡ true). let d = is_digit_lem (byte_at s i) e in (d.0, (d.1, rw e)))
-    (λ (e : is_digit (byte_at s i) ≡ false). absurd (let z : no_number < no_number = rw e at h in omega arith))
+    (λ (e : is_digit (byte_at s i) ≡ false). absurd (let z : none < none = rw e at h in omega arith))
     (true_or_false (is_digit (byte_at s i)))
 
 -- a turn of it
@@ -85,7 +85,7 @@ module _ (s : List ℕ) (at n k led b : ℕ) (sure : Sure s at n) (more : k < n)
   turn : (48 ≤ b) × (b ≤ 57)
   turn =
       let one : n - k ≡ suc (n - (k + 1)) = omega arith in
-      let below : digits_from (suc (n - (k + 1))) s (at + k) led < no_number = rw (← one, ← so) sure.number in
+      let below : digits_from (suc (n - (k + 1))) s (at + k) led < none = rw (← one, ← so) sure.number in
       let d = goes_on (n - (k + 1)) s (at + k) led below in
       (rw byte d.0, rw byte d.1.0)
 
@@ -112,7 +112,7 @@ module _ (s : List ℕ) (at n k led : ℕ) (sure : Sure s at n) (past : n ≤ k)
   unfolding digits_from
   sure_end = let z : n - k ≡ 0 = omega arith in sym (rw z at so)
 
-  pub sure_small : led < no_number
+  pub sure_small : led < none
   sure_small = rw sure_end sure.number
 
 -- ---- digits written

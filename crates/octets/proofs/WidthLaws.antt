@@ -1,7 +1,7 @@
 -- Laws of numbers read digit by digit, one way. Assumes nothing.
 use Rattle.std.proofs.Common.{◌≡◌, ℕ, zero, suc, ◌+◌, ◌-◌, ◌*◌, ◌%◌, ◌^◌, ◌<◌, ◌≤◌, Bool, true, false, cond, ◌||◌, ltb, List, sym, refl, ap, ◌∙◌, ⊎_elim, add-zero, add_assoc, mul_assoc, mul_comm, suc-add, pow-suc, zero-add, arith, ltb-false, le-leb}
 use Rattle.octets.specs.Number.{byte_at}
-use Rattle.octets.specs.Digits.{is_digit, no_number, digits_from, number_at}
+use Rattle.octets.specs.Digits.{is_digit, none, digits_from, number_at}
 use Rattle.octets.specs.Premises.{Number, Sure}
 use Rattle.octets.proofs.Cases.{true_or_false}
 use Rattle.octets.proofs.Tests.{then_same, else_same}
@@ -10,7 +10,7 @@ use Rattle.octets.specs.Told.{DigitTold, NumberTold, FiveTold}
 pub digit_so : (s : List ℕ) (i b r : ℕ) → b ≡ byte_at s i → (r + 48) % 2 ^ 32 ≡ b → DigitTold s i r
 digit_so s i b r read wraps = record { told = λ few. sym read ∙ sym wraps ∙ (let e : (r + 48) % 2 ^ 32 ≡ 48 + r = omega arith in e) }
 
-pub number_none : {s : List ℕ} {i n r : ℕ} → r ≡ no_number → NumberTold s i n r
+pub number_none : {s : List ℕ} {i n r : ℕ} → r ≡ none → NumberTold s i n r
 number_none e = record { told = λ less. absurd (omega arith); most = omega arith }
 
 -- ---- two flags that are off
@@ -63,13 +63,13 @@ three_so {s} {i} {a} {b} {c} x y z flags =
     record { told = λ less. omega (arith, all); most = omega arith }
 
 -- ---- digits behind digits
-is_digit_lem : (b : ℕ) (x y led : ℕ) → cond (is_digit b) x no_number ≡ y → y < no_number → (is_digit b ≡ true) × (x ≡ y)
+is_digit_lem : (b : ℕ) (x y led : ℕ) → cond (is_digit b) x none ≡ y → y < none → (is_digit b ≡ true) × (x ≡ y)
 is_digit_lem b x y led e less =
-    ⊎_elim (λ (d : is_digit b ≡ true). (d, sym (then_same (is_digit b) x no_number d) ∙ e))
-    (λ (d : is_digit b ≡ false). absurd (let z : no_number ≡ y = sym (else_same (is_digit b) x no_number d) ∙ e in omega arith)) (true_or_false (is_digit b))
+    ⊎_elim (λ (d : is_digit b ≡ true). (d, sym (then_same (is_digit b) x none d) ∙ e))
+    (λ (d : is_digit b ≡ false). absurd (let z : none ≡ y = sym (else_same (is_digit b) x none d) ∙ e in omega arith)) (true_or_false (is_digit b))
 
 -- n digits behind m
-behind : (m n : ℕ) (s : List ℕ) (i led x : ℕ) → digits_from m s i led ≡ x → x < no_number → digits_from (m + n) s i led ≡ digits_from n s (i + m) x
+behind : (m n : ℕ) (s : List ℕ) (i led x : ℕ) → digits_from m s i led ≡ x → x < none → digits_from (m + n) s i led ≡ digits_from n s (i + m) x
 unfolding digits_from
 behind zero n s i led x e less = rw (zero-add n, add-zero i, e)
 behind (suc m) n s i led x e less =
@@ -78,7 +78,7 @@ behind (suc m) n s i led x e less =
     rw (suc-add m n, d.0) (behind m n s (i + 1) (led * 10 + (byte_at s i - 48)) x d.1 less ∙ rw next)
 
 -- a number before them is multiplied by ten for each
-scaled : (n : ℕ) (s : List ℕ) (j a c y : ℕ) → digits_from n s j a ≡ y → y < no_number → digits_from n s j (c + a) ≡ c * 10 ^ n + y
+scaled : (n : ℕ) (s : List ℕ) (j a c y : ℕ) → digits_from n s j a ≡ y → y < none → digits_from n s j (c + a) ≡ c * 10 ^ n + y
 unfolding digits_from
 scaled zero s j a c y e less = rw e (omega arith)
 scaled (suc n) s j a c y e less =
@@ -87,7 +87,7 @@ scaled (suc n) s j a c y e less =
     let sum : (c + a) * 10 + (b - 48) ≡ c * 10 + (a * 10 + (b - 48)) = omega arith in
     rw (d.0, sum, pow-suc 10 n) (scaled n s (j + 1) (a * 10 + (b - 48)) (c * 10) y d.1 less ∙ rw (mul_assoc c 10 (10 ^ n), mul_comm 10 (10 ^ n)))
 
-digits_join : (m n : ℕ) (s : List ℕ) (i x y : ℕ) → x ≡ number_at s i m → x < no_number → y ≡ number_at s (i + m) n → y < no_number → x * 10 ^ n + y ≡ number_at s i (m + n)
+digits_join : (m n : ℕ) (s : List ℕ) (i x y : ℕ) → x ≡ number_at s i m → x < none → y ≡ number_at s (i + m) n → y < none → x * 10 ^ n + y ≡ number_at s i (m + n)
 unfolding number_at
 digits_join m n s i x y e f g h = sym (behind m n s i 0 x (sym e) f ∙ ap (λ (z : ℕ). digits_from n s (i + m) z) (sym (add-zero x)) ∙ scaled n s (i + m) 0 x y (sym g) h)
 

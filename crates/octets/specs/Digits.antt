@@ -7,13 +7,13 @@ unfoldable pub is_digit : ℕ → Bool
 is_digit b = nat_le 48 b && nat_le b 57
 
 -- the answer "no number": no nine digits make it
-abbrev pub no_number : ℕ
-no_number = 1000000000
+abbrev pub none : ℕ
+none = 1000000000
 
 -- the number that the n bytes of s from i on add to `led` in decimal, or none where one of them is no digit
 unfoldable pub digits_from : ℕ → List ℕ → ℕ → ℕ → ℕ
 digits_from zero s i led = led
-digits_from (suc n) s i led = cond (is_digit (byte_at s i)) (digits_from n s (i + 1) (led * 10 + (byte_at s i - 48))) no_number
+digits_from (suc n) s i led = cond (is_digit (byte_at s i)) (digits_from n s (i + 1) (led * 10 + (byte_at s i - 48))) none
 
 -- the decimal number in the n bytes of s from i on
 unfoldable pub number_at : List ℕ → ℕ → ℕ → ℕ

@@ -1,6 +1,6 @@
 // Decimal digits of a stated width, read and written.
 ghost use Rattle.std.specs.Prelude.{◌≡◌, ◌+◌, ◌<◌, ◌≤◌, length};
-ghost use Rattle.octets.specs.Digits.{no_number, number_at, digits_of, fewest};
+ghost use Rattle.octets.specs.Digits.{none, number_at, digits_of, fewest};
 ghost use Rattle.octets.specs.Premises.{Number, Sure};
 ghost use Rattle.octets.specs.Area.{Wrote};
 
@@ -34,7 +34,7 @@ pub fn get_digits(s: &[u8], at: usize, n: usize) -> u32
 // The same where the n bytes are known to be digits: none of them is tested.
 pub fn sure_digits(s: &[u8], at: usize, n: usize) -> u32
     requires { Sure s.now at n }
-    ensures { (result ≡ number_at s.now at n) × (result < no_number) }
+    ensures { (result ≡ number_at s.now at n) × (result < none) }
 {
     let mut led: u32 = 0;
     let mut k: usize = 0;

@@ -1,7 +1,7 @@
 // Decimal digits in the widths that leaders and directories mostly have, read without a loop. Two, three and
 // five digits are told one way: where the answer says that there is no number, nothing is promised.
 ghost use Rattle.std.specs.Prelude.{◌≡◌, ◌+◌, ◌<◌, ◌≤◌, length};
-ghost use Rattle.octets.specs.Digits.{no_number, number_at};
+ghost use Rattle.octets.specs.Digits.{none, number_at};
 ghost use Rattle.octets.specs.Premises.{Number, Sure};
 ghost use Rattle.octets.specs.Told.{DigitTold, NumberTold, FiveTold};
 
@@ -70,7 +70,7 @@ pub fn digits_at(s: &[u8], at: usize, n: usize) -> u32
 // The same as `sure_digits`, for widths that aren't known before.
 pub fn sure_at(s: &[u8], at: usize, n: usize) -> u32
     requires { Sure s.now at n }
-    ensures { (result ≡ number_at s.now at n) × (result < no_number) }
+    ensures { (result ≡ number_at s.now at n) × (result < none) }
 {
     if n == 2 {
         return sure_digits(s, at, 2);

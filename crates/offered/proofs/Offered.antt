@@ -16,11 +16,9 @@ use Rattle.demands.specs.Update.{Areas}
 use Rattle.demands.specs.ByteChart.{Whole}
 use Rattle.demands.proofs.Apply.{accepted_exactly}
 use Rattle.demands.proofs.ReadsBack.{held_admitted}
-use Rattle.demands.specs.Written.{admit_wrote}
-use Rattle.unit.specs.Unit.{Offer, offered, after}
+use Rattle.unit.specs.Unit.{admit_wrote, Offer, offered, after}
 use Rattle.unit.specs.Reissue.{chart_number, shown, number_of}
-use Rattle.demands.proofs.Written.{admit_wrote_lem}
-use Rattle.unit.proofs.CallLaws.{apply_allowed, offered_done, offered_kept}
+use Rattle.unit.proofs.CallLaws.{admit_wrote_lem, apply_allowed, offered_done, offered_kept}
 use Rattle.unit.proofs.SeriesLaws.{allowed_next}
 use Rattle.witness.specs.SmallCell.{small}
 use Rattle.witness.specs.SmallUpdates.{moving, deleting, chart_small, chart_moved, chart_deleted, held_small, held_moved, held_deleted}

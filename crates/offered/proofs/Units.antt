@@ -14,8 +14,7 @@ use Rattle.demands.specs.Cell.{Room}
 use Rattle.demands.specs.Update.{Areas}
 use Rattle.demands.proofs.Apply.{accepted_exactly}
 use Rattle.demands.proofs.Admit.{admitted_exactly}
-use Rattle.demands.specs.Written.{admit_wrote}
-use Rattle.unit.specs.Unit.{Offer, offered, after, files_of, In, BytesEach, UnitOf}
+use Rattle.unit.specs.Unit.{admit_wrote, Offer, offered, after, files_of, In, BytesEach, UnitOf}
 use Rattle.unit.specs.Unit.UnitOf.{begun, given}
 use Rattle.unit.specs.Reissue.{shown, number_of, OneEach, worked, Series, Worked, Reissue}
 use Rattle.unit.specs.Reissue.Series.{ended, next}

@@ -1,6 +1,6 @@
 -- Laws of a feature that the quick tests pass. Assumes nothing.
 use Prim.Native.Nat.{ℕ, ◌+◌, ◌-◌, ◌/◌, ◌≤◌}
-use mathlib.Core.Bool.{Bool, true, false, not, cond}
+use mathlib.Core.Bool.{Bool, true, false, not, cond, ◌&&◌}
 use mathlib.Core.List.{List, []}
 use mathlib.Core.Path.{◌≡◌, refl, sym, ap, ◌∙◌}
 use native.Mathlib.Omega.{arith}
@@ -9,7 +9,7 @@ use lib.Dec.{eqb}
 use borrow.Author.Tests.{eq-eqb, ne_eqb, eqb-true}
 use Rattle.octets.specs.Number.{byte_at, num_at}
 use Rattle.octets.specs.Premises.{Reads}
-use Rattle.octets.proofs.Tests.{told_yes}
+use Rattle.octets.proofs.Tests.{both, told_yes}
 use Rattle.words.specs.Words.{words_in}
 use Rattle.table.specs.Table.{FFPT, FSPT}
 use Rattle.answers.specs.First.{first_by}
@@ -27,16 +27,14 @@ use Rattle.lookups.specs.LookupWords.{index_of}
 use Rattle.vectorshape.specs.Shape.{spatial_good, spatial_count, feature_good, shape_good, shape_code}
 use Rattle.pointer.specs.Pointer.{names_code, pointer_code}
 use Rattle.ring.specs.Ring.{rings_good, ring_code}
-use Rattle.ring.specs.Walk.{node_at}
+use Rattle.ring.specs.Walk.{node_at, named_and}
 use Rattle.spans.specs.Spans.{SpanIn, SpanOf}
 use Rattle.spans.specs.declared.Span.{Span}
 use Rattle.spans.proofs.TagLaws.{ffpt_tag}
 use Rattle.spans.proofs.StrideLaws.{rest_end, rest_count, fspt_lies}
 use Rattle.quickvectors.proofs.CoordinateLaws.{never}
 use Rattle.quickfeatures.specs.Quick.{pointers, NamesTold, shaped_by, SpatialsTold, RelatedTold, Drawn}
-use Rattle.quickfeatures.specs.Trod.{RingsTold}
-use Rattle.quickfeatures.proofs.NameLaws.{all_told}
-use Rattle.quickfeatures.proofs.TrodLaws.{sound_told}
+use Rattle.quickfeatures.specs.Trod.{area_sound, RingsTold}
 
 -- ---- spatials_quick
 pub spatials_no : (s : List ℕ) (sp : Span) (prim : ℕ) (q : Bool) (work : List ℕ) (m v : ℕ) → SpatialsTold s sp prim q work m v false
@@ -46,6 +44,13 @@ spatials_no s sp prim q work m v = record {
   names = λ (e : false ≡ true). never e;
   rings = λ (e : false ≡ true). never e;
 }
+
+-- a rule of the code of names and rings together, taken apart
+named_out : (n : ℕ) (shaped rings : Bool) → (shaped && (eqb n 0 && rings)) ≡ true → (shaped ≡ true) × (n ≡ 0) × (rings ≡ true)
+named_out n shaped rings h =
+    let p = both shaped (eqb n 0 && rings) h in
+    let q = both (eqb n 0) rings p.1 in
+    (p.0, eqb-true n 0 q.0, q.1)
 
 module _ (s : List ℕ) (sp : Span) (prim : ℕ) (q : Bool) (work : List ℕ) (m v : ℕ) (inside : SpanIn s sp) (order : sp.from ≤ sp.to) where
   no_pointers : sp.from ≡ sp.to → pointers s sp ≡ []
@@ -70,14 +75,17 @@ module _ (s : List ℕ) (sp : Span) (prim : ℕ) (q : Bool) (work : List ℕ) (m
     pub spatials_named : (r : Bool) → (prim ≡ 3 → ⊥) → NamesTold s sp.from sp.to prim work m r → SpatialsTold s sp prim q work m v r
     spatials_named r other told = record {
       order = λ (e : r ≡ true). order;
-      shape = λ (e : r ≡ true). shaped (all_told prim (index_of (words_in work 0 m)) (pointers s sp) (told.is e)).0;
-      names = λ (e : r ≡ true). (all_told prim (index_of (words_in work 0 m)) (pointers s sp) (told.is e)).1;
+      shape = λ (e : r ≡ true). shaped (told.shape e);
+      names = λ (e : r ≡ true). told.names e;
       rings = λ (e : r ≡ true) (three : prim ≡ 3). absurd (other three);
     }
 
     ringed : RingsTold s sp.from sp.to work m v true → (all_of (spatial_good 3) (pointers s sp) ≡ true) × (names_code (index_of (words_in work 0 m)) (pointers s sp) ≡ 0)
         × (rings_good (node_at (words_in work 0 m) (words_in work m v)) (pointers s sp) ≡ true)
-    ringed told = sound_told work m v (pointers s sp) (rings_good (node_at (words_in work 0 m) (words_in work m v)) (pointers s sp)) (told.is refl)
+    unfolding area_sound named_and
+    ringed told =
+        named_out (names_code (index_of (words_in work 0 m)) (pointers s sp)) (all_of (spatial_good 3) (pointers s sp))
+        (rings_good (node_at (words_in work 0 m) (words_in work m v)) (pointers s sp)) (told.is refl)
 
     pub spatials_ringed : (r : Bool) → prim ≡ 3 → RingsTold s sp.from sp.to work m v r → SpatialsTold s sp prim q work m v r
     spatials_ringed r three told = record {

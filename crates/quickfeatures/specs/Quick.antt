@@ -1,7 +1,6 @@
 -- What the quick tests tell of a feature, each one way: where one says yes. It serves the proofs, and nothing here need be believed.
 -- Assumes nothing.
-use Rattle.std.specs.Prelude.{ℕ, ◌+◌, ◌-◌, ◌≤◌, Bool, true, not, cond, ◌&&◌, List, ◌≡◌, length, take, drop, eqb}
-use Rattle.answers.specs.Codes.{SHAPE, POINTER}
+use Rattle.std.specs.Prelude.{ℕ, ◌+◌, ◌-◌, ◌≤◌, ◌<◌, Bool, true, not, cond, ◌&&◌, List, ◌≡◌, length, take, drop, eqb}
 use Rattle.words.specs.Words.{words_in}
 use Rattle.table.specs.Table.{FFPT}
 use Rattle.entries.specs.Entries.{entries_of}
@@ -21,22 +20,15 @@ use Rattle.spans.specs.Spans.{rest_of}
 use Rattle.spans.specs.declared.Span.{Span}
 use Rattle.quickvectors.specs.Quick.{Faultless}
 
--- the place of the vector that an FSPT names, if the FSPT is one that the primitive wants
-unfoldable pub spatial_place : ℕ → (ℕ → Found) → List ℕ → Found
-spatial_place prim place e = cond (spatial_good prim e) (place (name_in e)) Nothing
-
--- "When an answer is an enum, a definition states this paper's number and values for each of its cases": a place is no fault; none is 17, Shape, where the
--- primitive doesn't want the FSPT, else "a NAME is refused exactly if no record of the cell has it", 18, Pointer
-unfoldable pub spatial_code : ℕ → List ℕ → Found → ℕ
-spatial_code prim e (At i) = 0
-spatial_code prim e Nothing = cond (spatial_good prim e) POINTER SHAPE
-
-unfoldable pub spatial_sound : ℕ → (ℕ → Found) → List ℕ → Bool
-spatial_sound prim place e = eqb (spatial_code prim e (spatial_place prim place e)) 0
+-- an FSPT that the primitive wants, and its index
+unfoldable pub SpatialTold : List ℕ → ℕ → List ℕ → ℕ → Found → Type 0
+SpatialTold e prim work m (At i) = (spatial_good prim e ≡ true) × (index_of (words_in work 0 m) (name_in e) ≡ At i) × (i < m)
+SpatialTold e prim work m Nothing = Unit {0}
 
 -- all FSPT in the bytes from `from` up to `to` are wanted, and there
 pub record NamesTold (s : List ℕ) (from to prim : ℕ) (work : List ℕ) (m : ℕ) (r : Bool) : Type 0 where
-  pub is : r ≡ true → all_of (spatial_sound prim (index_of (words_in work 0 m))) (rest_of 8 s from to) ≡ true
+  pub shape : r ≡ true → all_of (spatial_good prim) (rest_of 8 s from to) ≡ true
+  pub names : r ≡ true → names_code (index_of (words_in work 0 m)) (rest_of 8 s from to) ≡ 0
 
 -- the FSPT of a span
 abbrev pub pointers : List ℕ → Span → List (List ℕ)

@@ -1,9 +1,7 @@
 // The vectors that a feature points to: each FSPT as its primitive wants it, and there.
-ghost use Rattle.std.specs.Prelude.{◌+◌, ◌≤◌, ◌<◌, ◌≡◌, length};
-ghost use Rattle.words.specs.Words.{words_in};
-ghost use Rattle.lookups.specs.LookupWords.{index_of};
+ghost use Rattle.std.specs.Prelude.{◌≤◌, ◌<◌, length};
 ghost use Rattle.names.specs.Premises.{Noted};
-ghost use Rattle.quickfeatures.specs.Quick.{spatial_place, NamesTold};
+ghost use Rattle.quickfeatures.specs.Quick.{SpatialTold, NamesTold};
 
 use lookups::lookup::{Found, index_near, name_in};
 use lookups::starts::{Starts, start_for};
@@ -22,7 +20,7 @@ fn spatial_near(
     starts: Starts,
 ) -> Found
     requires { (8 ≤ length e.now) × Noted work.now m v }
-    ensures { result ≡ spatial_place prim (index_of (words_in work.now 0 m)) e.now }
+    ensures { SpatialTold e.now prim work.now m result }
 {
     if !spatial_good(e, prim) {
         return Found::Nothing;
@@ -32,10 +30,9 @@ fn spatial_near(
     index_near(work, 0, m, name, near, start)
 }
 
-// The index behind index i of m: a guess for the next look-up.
+// The index behind index i of m: a guess for the next look-up, which promises nothing.
 pub fn index_behind(i: usize, m: usize) -> usize
     requires { i < m }
-    ensures { result ≡ i + 1 }
 {
     i + 1
 }

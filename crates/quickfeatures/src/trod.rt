@@ -1,12 +1,8 @@
 // An edge of an area, looked up where it is guessed.
-ghost use Rattle.std.specs.Prelude.{◌≤◌, ◌≡◌, length};
-ghost use Rattle.words.specs.Words.{words_in};
-ghost use Rattle.lookups.specs.LookupWords.{index_of};
+ghost use Rattle.std.specs.Prelude.{◌≤◌, length};
 ghost use Rattle.names.specs.Premises.{Noted};
-ghost use Rattle.spans.specs.Spans.{rest_of};
-ghost use Rattle.ring.specs.Walk.{node_at};
-ghost use Rattle.quickfeatures.specs.Quick.{spatial_place};
-ghost use Rattle.quickfeatures.specs.Trod.{trod_of, trod_next};
+ghost use Rattle.quickfeatures.specs.Quick.{SpatialTold};
+ghost use Rattle.quickfeatures.specs.Trod.{TrodTold, TrodAt};
 
 use crate::spatial::index_behind;
 use items::word;
@@ -18,7 +14,7 @@ use shape::spatial::spatial_good;
 use table::{offsets, sizes};
 
 // The step along the edge of an FSPT and the index behind that of the edge; or an FSPT that an area
-// doesn't want, or that names no record, or none at all.
+// doesn't want, or that names no record.
 #[derive(Drop)]
 pub enum Trod {
     Along(Step, usize),
@@ -29,7 +25,7 @@ pub enum Trod {
 // index. It is `spatial_near` for an area, with one caller, so that the compiler puts it into the walk.
 fn edge_near(e: &[u8], work: &[u8], m: usize, v: usize, near: usize, starts: Starts) -> Found
     requires { (8 ≤ length e.now) × Noted work.now m v }
-    ensures { result ≡ spatial_place 3 (index_of (words_in work.now 0 m)) e.now }
+    ensures { SpatialTold e.now 3 work.now m result }
 {
     if !spatial_good(e, 3) {
         return Found::Nothing;
@@ -42,7 +38,7 @@ fn edge_near(e: &[u8], work: &[u8], m: usize, v: usize, near: usize, starts: Sta
 // The step of one FSPT.
 fn step_near(e: &[u8], work: &[u8], m: usize, v: usize, near: usize, starts: Starts) -> Trod
     requires { (8 ≤ length e.now) × Noted work.now m v }
-    ensures { result ≡ trod_of (index_of (words_in work.now 0 m)) (node_at (words_in work.now 0 m) (words_in work.now m v)) e.now }
+    ensures { TrodTold e.now work.now m v result }
 {
     let Found::At(i) = edge_near(e, work, m, v, near, starts) else {
         return Trod::Astray;
@@ -84,8 +80,7 @@ pub fn trod_at(
     starts: Starts,
 ) -> Trod
     requires { (i ≤ to) × (to ≤ length s.now) × Noted work.now m v }
-    ensures { result ≡ trod_next (index_of (words_in work.now 0 m)) (node_at (words_in work.now 0 m) (words_in work.now m v))
-        (rest_of 8 s.now i to) }
+    ensures { TrodAt s.now i to work.now m v result }
 {
     if to - i < sizes::FSPT {
         return Trod::Astray;

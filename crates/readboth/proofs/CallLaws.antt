@@ -12,14 +12,13 @@ use Rattle.octets.proofs.Cases.{true_or_false}
 use Rattle.answers.specs.Codes.{most_bytes}
 use Rattle.answers.specs.Answer.{answer, filed}
 use Rattle.answers.specs.First.{first_by, first_answer}
-use Rattle.answers.proofs.FirstLaws.{first_stays}
 use Rattle.answers.specs.declared.refusal.Refusal.{Refusal}
 use Rattle.answers.specs.declared.answer.Answer.{Answer}
 use Rattle.iso8211.specs.File.{frame_of}
 use Rattle.iso8211.specs.declared.file.Framed.{Framed}
 use Rattle.iso8211.specs.declared.file.Framed.TheVariants.{Records, Broken}
 use Rattle.iso8211.proofs.Promise.{records_few}
-use Rattle.reader.specs.Reader.{framed_front, front_of, front_answer, fronted, opening, records_in, work_answer, cell_fault, cell_checked, both_checked}
+use Rattle.reader.specs.Reader.{framed_front, front_of, fronted, opening, records_in, work_answer, cell_fault, cell_checked, both_checked}
 use Rattle.reader.specs.Calls.{read_cell, read_both}
 use Rattle.reader.specs.Lent.{FileOpened}
 use Rattle.reader.specs.declared.front.Front.{Front}
@@ -88,15 +87,6 @@ module _ (file : ℕ) (s : List ℕ) (on : ℕ → Answer) where
   pub opening_told : (opening file s on).code ≡ 0
       → (front_of file s ≡ Count (records_in (front_of file s))) × (opening file s on ≡ on (records_in (front_of file s))) × ((on (records_in (front_of file s))).code ≡ 0)
   opening_told h = front_told (front_of file s) refl h
-
-  first_front : (f : Front) → front_of file s ≡ f → fronted (λ (a : Answer). a) on f ≡ first_answer (front_answer f) (on (records_in f))
-  unfolding fronted records_in first_by
-  first_front (Count n) e = refl
-  first_front (Refused a) e = sym (first_stays (λ (x : Answer). x.code) a (on 0) (front_refused file s a e))
-
-  -- every call begins with its file's answer, then comes on with the number of its records
-  pub opening_first : opening file s on ≡ first_answer (front_answer (front_of file s)) (on (records_in (front_of file s)))
-  opening_first = first_front (front_of file s) refl
 
 -- for one way through the code
 module _ (file : ℕ) (s : List ℕ) (f : Front) (is : f ≡ front_of file s) (on : ℕ → Answer) (a : Answer) where

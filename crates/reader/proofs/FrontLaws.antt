@@ -3,11 +3,11 @@ use Prim.Native.Nat.{ℕ, suc, ◌+◌, ◌-◌, ◌≤◌, ◌<◌}
 use mathlib.Core.Bool.{Bool, true, false}
 use mathlib.Core.List.{List}
 use mathlib.Core.Logic.{⊎_elim}
-use mathlib.Core.Path.{◌≡◌, refl, sym, ap, ◌∙◌}
+use mathlib.Core.Path.{◌≡◌, refl, sym, ◌∙◌}
 use native.Mathlib.Omega.{arith}
 use lib.ListN.{length}
-use lib.Dec.{eqb, ltb}
-use borrow.Author.Tests.{ne_eqb, lt-ltb, le-ltb, ltb-true, ltb-false}
+use lib.Dec.{eqb}
+use borrow.Author.Tests.{ne_eqb, lt-ltb, le-ltb}
 use Rattle.octets.proofs.Cases.{true_or_false}
 use Rattle.iso8211.specs.Record.{record_good, end_of}
 use Rattle.iso8211.specs.Premises.{good_end}
@@ -17,11 +17,9 @@ use Rattle.iso8211.specs.declared.file.Framed.TheVariants.{Records, Broken}
 use Rattle.iso8211.proofs.RecordLaws.{record_framed}
 use Rattle.iso8211.proofs.FileLaws.{end_past, frame_start, frame_broken, frame_done, frame_on}
 use Rattle.iso8211.proofs.Promise.{at_start, at_on}
-use Rattle.answers.specs.Codes.{most_bytes}
 use Rattle.answers.specs.Answer.{answer}
-use Rattle.answers.specs.First.{first_by, first_answer}
-use Rattle.reader.specs.Lent.{StartedAt, FramedTo}
-use Rattle.reader.specs.Reader.{framed_front, front_of, front_answer, start_of, start_answer}
+use Rattle.reader.specs.Lent.{StartedAt, StartTold, FramedTo}
+use Rattle.reader.specs.Reader.{framed_front, front_of}
 use Rattle.answers.specs.declared.answer.Answer.{Answer}
 use Rattle.reader.specs.declared.front.Start.{Start}
 use Rattle.reader.specs.declared.front.Start.TheVariants as start
@@ -31,16 +29,6 @@ use Rattle.reader.specs.declared.front.Front.TheVariants.{Count, Refused}
 good_end_is : (first : Bool) (s : List ℕ) (at e : ℕ) → record_good first s at ≡ true → e ≡ end_of s at → e ≡ good_end first s at
 unfolding good_end
 good_end_is first s at e good is = is ∙ rw good
-
-no_end : (first : Bool) (s : List ℕ) (at : ℕ) → record_good first s at ≡ false → 0 ≡ good_end first s at
-unfolding good_end
-no_end first s at bad = rw bad
-
-end_none : (first : Bool) (s : List ℕ) (at e : ℕ) → e ≡ good_end first s at → e ≡ 0 → record_good first s at ≡ false
-unfolding good_end
-end_none first s at e is z =
-    ⊎_elim (λ (g : record_good first s at ≡ true). let past = end_past first s at g in let end : e ≡ end_of s at = is ∙ rw g in absurd (omega arith))
-    (λ (g : record_good first s at ≡ false). g) (true_or_false (record_good first s at))
 
 end_told : (first : Bool) (s : List ℕ) (at e : ℕ) → e ≡ good_end first s at → (e ≡ 0 → ⊥) → (record_good first s at ≡ true) × (e ≡ end_of s at)
 unfolding good_end
@@ -61,77 +49,29 @@ module _ (file : ℕ) (s : List ℕ) (r : Framed) (few : length s ≤ 5242880) (
   unfolding front_of framed_front
   front_broken k p a told at e = rw (le-ltb 5242880 (length s) few, ← is, told, e, at)
 
--- ---- the start
-module _ (file : ℕ) (s : List ℕ) where
-  start_over : ltb most_bytes (length s) ≡ true → start_of file s ≡ start.Refused (answer 1 file 0 0 0)
-  unfolding start_of
-  start_over over = rw over
+-- ---- started
+pub start_refused : (file : ℕ) (s : List ℕ) (a : Answer) → Refused a ≡ front_of file s → StartTold file s (start.Refused a)
+start_refused file s a is = record {
+  starts = λ x e. absurd (let z : ◌≡◌ {A = ℕ} 0 1 = cc in omega arith);
+  refused = λ b e. let same : a ≡ b = cc in rw (← same) (sym is);
+}
 
-  module _ (few : ltb most_bytes (length s) ≡ false) where
-    start_bad : record_good true s 0 ≡ false → start_of file s ≡ start.Refused (answer 2 file 0 0 0)
-    unfolding start_of
-    start_bad bad = rw (few, bad)
-
-    start_good : record_good true s 0 ≡ true → start_of file s ≡ start.At (end_of s 0)
-    unfolding start_of
-    start_good good = rw (few, good)
-
--- ---- started: one law for each way out
-pub start_long : (file : ℕ) (s : List ℕ) (a : Answer) → 5242880 < length s → a ≡ answer 1 file 0 0 0 → start.Refused a ≡ start_of file s
-start_long file s a h e = rw e (sym (start_over file s (lt-ltb 5242880 (length s) h)))
+pub start_long : (file : ℕ) (s : List ℕ) (a : Answer) → 5242880 < length s → a ≡ answer 1 file 0 0 0 → StartTold file s (start.Refused a)
+start_long file s a h e = start_refused file s a (front_long file s a h e)
 
 module _ (file : ℕ) (s : List ℕ) (short : length s ≤ 5242880) (end : ℕ) (is : end ≡ good_end true s 0) where
-  pub start_broken : (a : Answer) → end ≡ 0 → a ≡ answer 2 file 0 0 0 → start.Refused a ≡ start_of file s
-  start_broken a z e = rw e (sym (start_bad file s (le-ltb 5242880 (length s) short) (end_none true s 0 end is z)))
+  pub start_broken : (a : Answer) → end ≡ 0 → a ≡ answer 2 file 0 0 0 → StartTold file s (start.Refused a)
+  start_broken a z e =
+      let broken : Broken 0 ≡ frame_of s = frame_broken s 0 0 end (frame_start s) is z in
+      start_refused file s a (front_broken file s (frame_of s) short refl 0 0 a (sym broken) (at_start s) e)
 
-  pub start_found : (end ≡ 0 → ⊥) → start.At end ≡ start_of file s
-  start_found some = let g = end_told true s 0 end is some in rw g.1 (sym (start_good file s (le-ltb 5242880 (length s) short) g.0))
-
--- ---- what a start tells
-start_cases : (file : ℕ) (s : List ℕ) (P : Start → Type 0) → (5242880 < length s → P (start.Refused (answer 1 file 0 0 0)))
-    → (length s ≤ 5242880 → record_good true s 0 ≡ false → P (start.Refused (answer 2 file 0 0 0)))
-    → (length s ≤ 5242880 → record_good true s 0 ≡ true → P (start.At (end_of s 0))) → P (start_of file s)
-start_cases file s P long bad good =
-    ⊎_elim (λ (o : ltb most_bytes (length s) ≡ true). rw (start_over file s o) (long (ltb-true _ _ o)))
-    (λ (o : ltb most_bytes (length s) ≡ false).
-    ⊎_elim (λ (g : record_good true s 0 ≡ true). rw (start_good file s o g) (good (ltb-false _ _ o) g))
-    (λ (g : record_good true s 0 ≡ false). rw (start_bad file s o g) (bad (ltb-false _ _ o) g)) (true_or_false (record_good true s 0)))
-    (true_or_false (ltb most_bytes (length s)))
-
--- the answer of a file whose record 0 is broken
-zero_broken : (file : ℕ) (s : List ℕ) (a : Answer) → length s ≤ 5242880 → record_good true s 0 ≡ false → a ≡ answer 2 file 0 0 0 → Refused a ≡ front_of file s
-zero_broken file s a short bad e =
-    let broken : Broken 0 ≡ frame_of s = frame_broken s 0 0 0 (frame_start s) (no_end true s 0 bad) refl in
-    front_broken file s (frame_of s) short refl 0 0 a (sym broken) (at_start s) e
-
-pub started_at : (file : ℕ) {s : List ℕ} {x : ℕ} (f : Start) → f ≡ start_of file s → f ≡ start.At x → StartedAt s x
-started_at file {s} {x} f told e =
-    start_cases file s (λ (r : Start). r ≡ start.At x → StartedAt s x)
-    (λ h no. absurd (let z : ◌≡◌ {A = ℕ} 0 1 = cc in omega arith))
-    (λ short bad no. absurd (let z : ◌≡◌ {A = ℕ} 0 1 = cc in omega arith))
-    (λ short good same. record { short = short; good = good; ends = (cc) })
-    (sym told ∙ e)
-
-pub started_refused : (file : ℕ) (s : List ℕ) {a : Answer} (f : Start) → f ≡ start_of file s → f ≡ start.Refused a → Refused a ≡ front_of file s
-started_refused file s {a} f told e =
-    start_cases file s (λ (r : Start). r ≡ start.Refused a → Refused a ≡ front_of file s)
-    (λ h same. front_long file s a h (cc))
-    (λ short bad same. zero_broken file s a short bad (cc))
-    (λ short good no. absurd (let z : ◌≡◌ {A = ℕ} 0 1 = cc in omega arith))
-    (sym told ∙ e)
-
--- "cell 1, 2": what is refused at the start is what the file is refused with
-start_first : (file : ℕ) (s : List ℕ) → first_answer (start_answer (start_of file s)) (front_answer (front_of file s)) ≡ front_answer (front_of file s)
-unfolding first_by
-start_first file s =
-    start_cases file s (λ (r : Start). first_answer (start_answer r) (front_answer (front_of file s)) ≡ front_answer (front_of file s))
-    (λ h. ap front_answer (front_long file s _ h refl))
-    (λ short bad. ap front_answer (zero_broken file s _ short bad refl))
-    (λ short good. refl)
-
-pub start_told : (file : ℕ) (s : List ℕ) (f : Start) → f ≡ start_of file s
-    → (f ≡ start_of file s) × (first_answer (start_answer f) (front_answer (front_of file s)) ≡ front_answer (front_of file s))
-start_told file s f is = (is, rw is (start_first file s))
+  pub start_found : (end ≡ 0 → ⊥) → StartTold file s (start.At end)
+  start_found some =
+      let g = end_told true s 0 end is some in
+      record {
+        starts = λ x e. let same : end ≡ x = cc in rw (← same) (record { short = short; good = g.0; ends = g.1 });
+        refused = λ b e. absurd (let z : ◌≡◌ {A = ℕ} 0 1 = cc in omega arith);
+      }
 
 -- ---- records that are known to be good
 framed_on : (s : List ℕ) (at k e : ℕ) → frame_of s ≡ framed_from (suc (length s - k)) s at k → record_good (eqb k 0) s at ≡ true → at ≡ record_at s k → e ≡ end_of s at
@@ -181,5 +121,9 @@ pub opened_all : {s : List ℕ} {k at : ℕ} (file : ℕ) → FramedTo s k at �
 opened_all {s} {k} {at} file so all short = let fits = so.fits in front_count file s (frame_of s) short refl k (so.done (omega arith))
 
 -- ---- opened
-pub start_framed : (file : ℕ) {s : List ℕ} {x : ℕ} (f : Start) → f ≡ start_of file s → f ≡ start.At x → FramedTo s 1 x × (length s ≤ 5242880)
-start_framed file f told e = let so = started_at file f told e in (framed_start so, so.short)
+module _ {file : ℕ} {s : List ℕ} (r : Start) (told : StartTold file s r) where
+  pub start_framed : (x : ℕ) → r ≡ start.At x → FramedTo s 1 x × (length s ≤ 5242880)
+  start_framed x e = (framed_start (told.starts x e), (told.starts x e).short)
+
+  pub start_answer : (a : Answer) → r ≡ start.Refused a → Refused a ≡ front_of file s
+  start_answer a e = sym (told.refused a e)

@@ -2,18 +2,27 @@
 -- believed. Assumes nothing.
 use Rattle.std.specs.Prelude.{ℕ, suc, ◌+◌, ◌-◌, ◌*◌, ◌≤◌, true, false, List, ◌≡◌, length}
 use Rattle.answers.specs.Codes.{most_bytes, work_each}
+use Rattle.answers.specs.declared.answer.Answer.{Answer}
 use Rattle.iso8211.specs.Record.{record_good, end_of}
 use Rattle.iso8211.specs.File.{framed_from, frame_of, record_at}
 use Rattle.iso8211.specs.declared.file.Framed.TheVariants.{Records}
 use Rattle.words.specs.Words.{words_in}
 use Rattle.words.specs.Order.{sorted}
 use Rattle.names.specs.NameWords.{name_words}
+use Rattle.reader.specs.Reader.{front_of}
+use Rattle.reader.specs.declared.front.Start.{Start}
+use Rattle.reader.specs.declared.front.Front.{Front}
 
 -- a file that is not too long and whose record 0, which ends at x, is good
 pub record StartedAt (s : List ℕ) (x : ℕ) : Type 0 where
   pub short : length s ≤ most_bytes
   pub good : record_good true s 0 ≡ true
   pub ends : x ≡ end_of s 0
+
+-- r is where record 1 starts, or the refusal of the file
+pub record StartTold (file : ℕ) (s : List ℕ) (r : Start) : Type 0 where
+  pub starts : (x : ℕ) → r ≡ Start.At x → StartedAt s x
+  pub refused : (a : Answer) → r ≡ Start.Refused a → front_of file s ≡ Front.Refused a
 
 -- the records before record k, which starts at `at`, are good: k records are all, or the verdict from there is that of the file
 pub record FramedTo (s : List ℕ) (k at : ℕ) : Type 0 where

@@ -1,6 +1,5 @@
 -- Reading whole: from the bytes of a cell, or of a cell and an update, to "readable" or the one refusal. Assumes nothing.
 use Rattle.std.specs.Prelude.{ℕ, ◌+◌, ◌*◌, true, false, cond, List, length, eqb, ltb}
-use Rattle.iso8211.specs.Record.{record_good, end_of}
 use Rattle.iso8211.specs.File.{frame_of, record_at}
 use Rattle.iso8211.specs.declared.file.Framed.{Framed}
 use Rattle.iso8211.specs.declared.file.Framed.TheVariants.{Records, Broken}
@@ -10,8 +9,6 @@ use Rattle.counted.specs.Counts.{counts_good}
 use Rattle.names.specs.declared.twice.Repeat.{Repeat}
 use Rattle.reader.specs.declared.front.Front.{Front}
 use Rattle.reader.specs.declared.front.Front.TheVariants.{Count, Refused}
-use Rattle.reader.specs.declared.front.Start.{Start}
-use Rattle.reader.specs.declared.front.Start.TheVariants as start
 use Rattle.answers.specs.Codes.{LONG, FRAME, WORK, TWICE, COUNTS, most_bytes, work_each}
 use Rattle.answers.specs.Answer.{refusal, fine, answer, unrefused, filed}
 use Rattle.answers.specs.First.{first_refusal, first_answer}
@@ -43,26 +40,8 @@ records_in (Count n) = n
 records_in (Refused a) = 0
 
 -- of a cell
-abbrev pub cell_records : List ℕ → ℕ
-cell_records s = records_in (front_of 1 s)
-
--- document 01's number and values for each case: of a file that is framed no code so far, n being how many records it has; else the refusal's own code,
--- file and record
-abbrev pub front_answer : Front → Answer
-front_answer (Count n) = unrefused
-front_answer (Refused a) = a
-
--- ---- a file is begun: the same of its record 0 alone
--- 1 Long, then 2 Frame of record 0; where record 1 starts else
-unfoldable pub start_of : ℕ → List ℕ → Start
-start_of file s =
-    cond (ltb most_bytes (length s)) (start.Refused (answer LONG file 0 0 0))
-    (cond (record_good true s 0) (start.At (end_of s 0)) (start.Refused (answer FRAME file 0 0 0)))
-
--- document 01's number and values for each case: no code so far, x being where record 1 starts, or the refusal's own
-abbrev pub start_answer : Start → Answer
-start_answer (start.At x) = unrefused
-start_answer (start.Refused a) = a
+abbrev pub count_in : List ℕ → ℕ
+count_in s = records_in (front_of 1 s)
 
 -- ---- the stages of reading
 -- 3 Work, "work area under 16 bytes a record of the files given", with the bytes needed: of w bytes for n records

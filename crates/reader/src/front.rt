@@ -1,9 +1,8 @@
 // Codes 1 and 2 of a file.
 ghost use Rattle.std.specs.Prelude.{◌≡◌, ◌≤◌, length};
 ghost use Rattle.answers.specs.Codes.{most_bytes};
-ghost use Rattle.answers.specs.First.{first_answer};
-ghost use Rattle.reader.specs.Lent.{FramedTo};
-ghost use Rattle.reader.specs.Reader.{front_of, front_answer, start_of, start_answer};
+ghost use Rattle.reader.specs.Lent.{FramedTo, StartTold};
+ghost use Rattle.reader.specs.Reader.{front_of};
 
 use answers::Answer;
 use answers::answer::answered;
@@ -24,10 +23,9 @@ pub enum Front {
     Refused(Answer),
 }
 
-// Code 1, and code 2 of record 0: what is refused here is what the file is refused with.
+// Code 1, and code 2 of record 0.
 pub fn started(s: &[u8], file: u32) -> Start
-    ensures value { result ≡ start_of file s.now }
-    ensures s_value { first_answer (start_answer result) (front_answer (front_of file s.now)) ≡ front_answer (front_of file s.now) }
+    ensures { StartTold file s.now result }
 {
     if MOST_BYTES < s.len() {
         return Start::Refused(answered(LONG, file, 0, 0, 0));

@@ -17,12 +17,12 @@ use Rattle.iso8211.specs.declared.file.Framed.TheVariants.{Records}
 use Rattle.iso8211.proofs.FileLaws.{apart}
 use Rattle.iso8211.proofs.Promise.{framed_at, at_start, last_ends}
 use Rattle.layout.specs.Premises.{DssiThere}
-use Rattle.answers.specs.Answer.{refusal, answer, unrefused, filed}
+use Rattle.answers.specs.Answer.{refusal, answer, filed}
 use Rattle.answers.specs.First.{first_answer}
 use Rattle.answers.specs.declared.refusal.Refusal.{Refusal}
 use Rattle.answers.specs.declared.answer.Answer.{Answer}
 use Rattle.answers.proofs.FirstLaws.{first_on, first_stays}
-use Rattle.answers.proofs.AnswerLaws.{code_kept, filed_none, filed_kept, filed_tested}
+use Rattle.answers.proofs.AnswerLaws.{code_kept, filed_kept, filed_tested}
 use Rattle.names.specs.Names.{first_item, twice_of}
 use Rattle.names.specs.NameWords.{name_words}
 use Rattle.names.specs.Premises.{Readable, HeldIn}
@@ -34,17 +34,16 @@ use Rattle.counted.specs.Tallies.{tally_of}
 use Rattle.counted.specs.declared.counts.Tally.{Tally}
 use Rattle.chart.specs.Before.{ReadTo}
 use Rattle.chart.specs.Read.{read_fault}
-use Rattle.reader.specs.Reader.{front_of, fronted, opening, start_of, work_answer, cell_fault, cell_checked}
+use Rattle.reader.specs.Reader.{front_of, fronted, opening, work_answer, cell_fault, cell_checked}
 use Rattle.reader.specs.Calls.{read_cell}
-use Rattle.reader.specs.Lent.{StartedAt, NamesLent, FramedTo}
+use Rattle.reader.specs.Lent.{StartedAt, StartTold, NamesLent, FramedTo}
 use Rattle.reader.specs.declared.front.Front.{Front}
 use Rattle.reader.specs.declared.front.Front.TheVariants as front
 use Rattle.reader.specs.declared.front.Start.{Start}
 use Rattle.reader.specs.declared.front.Start.TheVariants as start
-use Rattle.reader.proofs.FrontLaws.{started_refused}
 use Rattle.reader.proofs.ReaderLaws.{readable, dssi_read, cell_twice, cell_counts, cell_fine, held_words}
 use Rattle.readboth.proofs.CallLaws.{few, front_opened, front_refused, checked_work, checked_filed, cell_refused, cell_read_on}
-use Rattle.readonce.specs.Once.{FileTold, AllPassed, CellPassed, CellOpened, CellRead, read_answer, CellRefused, CellTold}
+use Rattle.readonce.specs.Once.{FileTold, AllPassed, CellPassed, CellOpened, CellRead, CellRefused, CellTold}
 use Rattle.readonce.specs.declared.pass.Passed.{Passed}
 use Rattle.readonce.specs.declared.cell.Read.{Read}
 use Rattle.readonce.specs.declared.cell.Read.TheVariants.{All, Refused}
@@ -133,34 +132,24 @@ module _ {s work : List ℕ} {n : ℕ} {p : Passed} (so : CellOpened s n p work)
   rest_read = so.passed.told.passed.read n (reached_few n so.passed.told.passed.framed so.framed)
 
 -- ---- the answers
--- a cell without any of the codes 1 to 8
-read_none : {s work : List ℕ} {n : ℕ} (w : ℕ) → CellRead s n work → length work ≡ w → unrefused ≡ read_cell s w
-read_none {s} {work} {n} w so size =
-    cell_read_on s w (front_of 1 s) unrefused refl n so.front
-    (checked_filed s w n unrefused (cell_fault s n) (let room = so.room in omega arith) refl (filed_none 1 (cell_fault s n) unrefused so.fine refl))
-
-told_all : {s work : List ℕ} {n : ℕ} (w : ℕ) → CellRead s n work → length work ≡ w → CellTold s w work (All n)
-unfolding read_answer
-told_all {n = n} w read size = record {
-  answer = read_none w read size;
+told_all : {s work : List ℕ} {w n : ℕ} → CellRead s n work → CellTold s w work (All n)
+told_all {n = n} read = record {
   all = λ m e. let same : n ≡ m = cc in rw (← same) read;
-  some = λ a e. absurd (let z : ◌≡◌ {A = ℕ} 0 1 = cc in omega arith);
+  refused = λ a e. absurd (let z : ◌≡◌ {A = ℕ} 0 1 = cc in omega arith);
 }
 
 told_refused : {s work : List ℕ} {w : ℕ} {a : Answer} → CellRefused s w a → CellTold s w work (Refused a)
-unfolding read_answer
 told_refused {a = a} so = record {
-  answer = so.is;
   all = λ m e. absurd (let z : ◌≡◌ {A = ℕ} 0 1 = cc in omega arith);
-  some = λ b e. let same : a ≡ b = cc in rw (← same) so.code;
+  refused = λ b e. let same : a ≡ b = cc in rw (← same) so;
 }
 
 -- codes 1 and 2
 pub told_front : {s work : List ℕ} (w : ℕ) (f : Front) (a : Answer) → f ≡ front_of 1 s → f ≡ front.Refused a → CellTold s w work (Refused a)
 told_front {s} w f a is told = told_refused (record { is = cell_refused s w f a is told; code = front_refused 1 s a (sym is ∙ told) })
 
-pub told_start : {s work : List ℕ} (w : ℕ) (f : Start) (a : Answer) → f ≡ start_of 1 s → f ≡ start.Refused a → CellTold s w work (Refused a)
-told_start {s} w f a is told = told_front w (front_of 1 s) a refl (sym (started_refused 1 s f is told))
+pub told_start : {s work : List ℕ} (w : ℕ) (f : Start) (a : Answer) → StartTold 1 s f → f ≡ start.Refused a → CellTold s w work (Refused a)
+told_start {s} w f a so told = told_front w (front_of 1 s) a refl (so.refused a told)
 
 -- code 3, then 4 to 8
 module _ (s : List ℕ) (n : ℕ) (opened : front_of 1 s ≡ front.Count n) where
@@ -184,10 +173,17 @@ module _ (s : List ℕ) (n : ℕ) (opened : front_of 1 s ≡ front.Count n) wher
 
   pub told_read : {work : List ℕ} (w : ℕ) (r : Refusal) → length work ≡ w → 16 * n ≤ w → r ≡ cell_fault s n → r.code ≡ 0 → (r.code ≡ 0 → HeldIn s n work)
       → CellTold s w work (All n)
-  told_read w r size room is none held =
-      told_all w (record { front = opened; room = omega arith; fine = ap (λ (q : Refusal). q.code) (sym is) ∙ none; words = held none }) size
+  told_read w r size room is none held = told_all (record {
+    front = opened;
+    room = omega arith;
+    fine = ap (λ (q : Refusal). q.code) (sym is) ∙ none;
+    words = held none;
+  })
 
 -- ---- read_from, cell_read
+pub started_at : (file : ℕ) {s : List ℕ} {x : ℕ} (f : Start) → StartTold file s f → f ≡ start.At x → StartedAt s x
+started_at file f so told = so.starts _ told
+
 -- the work area keeps its length during the pass
 pub told_along : {s work : List ℕ} {v w : ℕ} {r : Read} → v ≡ w → CellTold s v work r → CellTold s w work r
 told_along e so = rw e at so
@@ -200,8 +196,7 @@ pub read_all : {s work : List ℕ} {w n : ℕ} (r : Read) → CellTold s w work 
 read_all r told e = told.all _ e
 
 pub read_refused : {s work : List ℕ} {w : ℕ} {a : Answer} (r : Read) → CellTold s w work r → r ≡ Refused a → CellRefused s w a
-unfolding read_answer
-read_refused {a = a} r told e = record { is = rw e at told.answer; code = told.some a e }
+read_refused r told e = told.refused _ e
 
 -- whatever comes behind reading, a refusal stays
 worked_same : (w n : ℕ) (x y a : Answer) → (a.code ≡ 0 → ⊥) → ((x.code ≡ 0 → ⊥) → y ≡ x) → a ≡ first_answer (work_answer w n) x → a ≡ first_answer (work_answer w n) y

@@ -1,7 +1,6 @@
 -- What a pass over a file promises. It serves the proofs, and nothing here need be believed. Assumes nothing.
 use Rattle.std.specs.Prelude.{ℕ, ◌+◌, ◌-◌, ◌*◌, ◌≤◌, Bool, true, false, List, ◌≡◌, length}
 use Rattle.answers.specs.Codes.{most_bytes, work_each}
-use Rattle.answers.specs.Answer.{unrefused}
 use Rattle.answers.specs.declared.answer.Answer.{Answer}
 use Rattle.iso8211.specs.File.{frame_of, record_at}
 use Rattle.iso8211.specs.declared.file.Framed.TheVariants.{Records}
@@ -109,18 +108,11 @@ pub record CellRead (s : List ℕ) (n : ℕ) (work : List ℕ) : Type 0 where
   pub fine : (cell_fault s n).code ≡ 0
   pub words : HeldIn s n work
 
--- document 01's number and values for each case: "0 done: 0, 0" of a cell that none of the codes 1 to 8 refuses, else the refusal's own
-unfoldable pub read_answer : Read → Answer
-read_answer (All n) = unrefused
-read_answer (Refused a) = a
-
 -- a is the answer to a cell that has one of them, with w bytes of work
 pub record CellRefused (s : List ℕ) (w : ℕ) (a : Answer) : Type 0 where
   pub is : a ≡ read_cell s w
   pub code : a.code ≡ 0 → ⊥
 
--- r is the answer to the cell; n is the number of its records, and `work` holds their words, where it isn't refused; a refusal has a code
 pub record CellTold (s : List ℕ) (w : ℕ) (work : List ℕ) (r : Read) : Type 0 where
-  pub answer : read_answer r ≡ read_cell s w
   pub all : (n : ℕ) → r ≡ All n → CellRead s n work
-  pub some : (a : Answer) → r ≡ Refused a → a.code ≡ 0 → ⊥
+  pub refused : (a : Answer) → r ≡ Refused a → CellRefused s w a

@@ -18,7 +18,7 @@ use Rattle.entries.specs.declared.Shape.{Shape}
 use Rattle.entries.specs.Entries.{Each}
 use Rattle.entries.specs.Entries.Each.{each_none, each_more}
 use Rattle.entries.proofs.EntriesLaws.{each_entries}
-use Rattle.table.specs.Table.{FIRST, VRID, FRID, FOID, tag_of, row_of, table, as_number}
+use Rattle.table.specs.Table.{first, VRID, FRID, FOID, tag_of, row_of, table, as_number}
 use Rattle.table.specs.Text.{bytes}
 use Rattle.layout.specs.Layout.{shape_of}
 use Rattle.items.specs.Premises.{Featured}
@@ -188,7 +188,7 @@ module _ (s : List ℕ) (at : ℕ) (small : (i : ℕ) → byte_at s i < 256) whe
         ∙ ap (λ (l : List ℕ). l ++ (bytes_of 2 (version_at s at + 1) ++ (1 ∷ []))) (five room)
 
     vector_fields : List Piece
-    vector_fields = piece FIRST (bytes_of 2 0) ∷ piece VRID (vrid_bytes (amended a (item_at s at))) ∷ []
+    vector_fields = piece first (bytes_of 2 0) ∷ piece VRID (vrid_bytes (amended a (item_at s at))) ∷ []
 
     vector_body : body_of vector_fields ≡ id_front s at 5 (version_at s at + 1)
     unfolding body_of vector_fields id_front version_bytes
@@ -226,7 +226,7 @@ module _ (s : List ℕ) (at : ℕ) (small : (i : ℕ) → byte_at s i < 256) whe
 
     feature_fields : List Piece
     feature_fields =
-        piece FIRST (bytes_of 2 0) ∷ piece FRID (frid_bytes (amended a (item_at s at))) ∷ piece FOID (bytes_of 8 (of_feature (rcnm_at s at) (foid_at s at))) ∷ []
+        piece first (bytes_of 2 0) ∷ piece FRID (frid_bytes (amended a (item_at s at))) ∷ piece FOID (bytes_of 8 (of_feature (rcnm_at s at) (foid_at s at))) ∷ []
 
     feature_body : body_of feature_fields ≡ id_front s at 9 (version_at s at + 1) ++ foid_bytes s at
     unfolding body_of feature_fields id_front version_bytes

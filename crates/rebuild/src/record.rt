@@ -12,7 +12,7 @@ ghost use Rattle.itemrows.specs.Joined.{field_piece};
 ghost use Rattle.lying.specs.Lying.{Lain};
 ghost use Rattle.changes.specs.Amend.{kinds_of};
 ghost use Rattle.changes.specs.Change.{amendment_at, edit_of};
-ghost use Rattle.amend.specs.Sides.{Sides, list_bytes, AmendAreas};
+ghost use Rattle.amend.specs.Sides.{Sides, list_bytes, Areas};
 ghost use Rattle.amend.specs.Pairs.{PlanFor};
 ghost use Rattle.raising.specs.Record.{both_for, Editable, EditedPut, ListsPut};
 
@@ -44,9 +44,9 @@ fn put_edited_field(
     requires { Sides cell.now at update.now by × HeadOf cell.now at hc × Lain cell.now at lc.now × HeadOf update.now by hu
         × Lain update.now by lu.now × PlanFor cell.now at update.now by plan × ((row_of k).list ≡ true)
         × (allowed_at (edit_of (amendment_at update.now by)) (item_at cell.now at).lists k ≡ true)
-        × AmendAreas join.old table.old × (place + both_for cell.now at update.now by k ≤ length room.old) }
+        × Areas join.old table.old × (place + both_for cell.now at update.now by k ≤ length room.old) }
     ensures { Wrote room.old place (body_of (field_piece k (list_bytes cell.now at update.now by k))) room.new result
-        × (place ≤ result) × (result ≤ place + both_for cell.now at update.now by k) × AmendAreas join.new table.new }
+        × (place ≤ result) × (result ≤ place + both_for cell.now at update.now by k) × Areas join.new table.new }
 {
     let end = put_kind(
         cell, at, hc, lc, update, by, hu, lu, k, plan, join, table, room, place,
@@ -85,9 +85,9 @@ fn put_edited_lists(
     room: &mut [u8],
 ) -> [u32; 4]
     requires { Editable cell.now at update.now by × HeadOf cell.now at hc × Lain cell.now at lc.now × HeadOf update.now by hu
-        × Lain update.now by lu.now × PlanFor cell.now at update.now by plan × AmendAreas join.old table.old × (200500 ≤ length room.old) }
+        × Lain update.now by lu.now × PlanFor cell.now at update.now by plan × Areas join.old table.old × (200500 ≤ length room.old) }
     ensures { ListsPut (list_bytes cell.now at update.now by) plan.kinds room.new result
-        × AmendAreas join.new table.new }
+        × Areas join.new table.new }
 {
     let kinds = plan.kinds;
     let mut totals = [0u32; 4];
@@ -120,9 +120,9 @@ fn put_lists_lying(
     room: &mut [u8],
 ) -> [u32; 4]
     requires { Editable cell.now at update.now by × HeadOf cell.now at hc × Lain cell.now at lc.now × HeadOf update.now by hu
-        × Lain update.now by lu.now × AmendAreas join.old table.old × (200500 ≤ length room.old) }
+        × Lain update.now by lu.now × Areas join.old table.old × (200500 ≤ length room.old) }
     ensures { ListsPut (list_bytes cell.now at update.now by) (kinds_of (rcnm_at cell.now at)) room.new result
-        × AmendAreas join.new table.new }
+        × Areas join.new table.new }
 {
     let plan = plan_of(cell, at, hc, lc, update, by, hu, lu, join);
     put_edited_lists(
@@ -141,9 +141,9 @@ fn put_lists_by(
     table: &mut [u32],
     room: &mut [u8],
 ) -> [u32; 4]
-    requires { Editable cell.now at update.now by × HeadOf cell.now at hc × AmendAreas join.old table.old × (200500 ≤ length room.old) }
+    requires { Editable cell.now at update.now by × HeadOf cell.now at hc × Areas join.old table.old × (200500 ≤ length room.old) }
     ensures { ListsPut (list_bytes cell.now at update.now by) (kinds_of (rcnm_at cell.now at)) room.new result
-        × AmendAreas join.new table.new }
+        × Areas join.new table.new }
 {
     let hu = head_of(update, by);
     let mut lc = [0usize; PLACES];
@@ -164,8 +164,8 @@ pub fn put_edited_record(
     table: &mut [u32],
     room: &mut [u8],
 ) -> usize
-    requires { Editable cell.now at update.now by × AmendAreas join.old table.old × (200500 ≤ length room.old) }
-    ensures { EditedPut cell.now at update.now by room.new result × AmendAreas join.new table.new }
+    requires { Editable cell.now at update.now by × Areas join.old table.old × (200500 ≤ length room.old) }
+    ensures { EditedPut cell.now at update.now by room.new result × Areas join.new table.new }
 {
     let hc = head_of(cell, at);
     let totals = put_lists_by(cell, at, hc, update, by, join, table, room);

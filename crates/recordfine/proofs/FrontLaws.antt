@@ -1,7 +1,7 @@
 -- Laws of the first rows of a record, whose numbers are compared. Assumes nothing.
 use Prim.Native.Nat.{ℕ, suc, ◌+◌, ◌-◌, ◌*◌, ◌/◌, ◌%◌, ◌≤◌, ◌<◌}
 use mathlib.Core.Bool.{Bool, true, false, not}
-use mathlib.Core.List.{List, [], ◌∷◌}
+use mathlib.Core.List.{List}
 use mathlib.Core.Path.{◌≡◌, refl, sym, ◌∙◌}
 use native.Mathlib.Nat.{mul-le-mul_right}
 use native.Mathlib.Omega.{arith}
@@ -11,7 +11,7 @@ use lib.Dec.{eqb}
 use borrow.Author.Tests.{eqb-true, eqb-false, not-true, not-false}
 use Rattle.octets.specs.Number.{byte_at, num_at}
 use Rattle.octets.specs.Premises.{Reads}
-use Rattle.iso8211.specs.Directory.{tag_at, row_at, len}
+use Rattle.iso8211.specs.Directory.{tag_at}
 use Rattle.iso8211.specs.Field.{count_at}
 use Rattle.fieldfine.specs.Told.{content_in, groups_good}
 use Rattle.fieldfine.specs.Place.{list_stands, PlainField}
@@ -20,7 +20,6 @@ use Rattle.fieldfine.proofs.FieldLaws.{field_first, field_foid, field_sg2d, fiel
 use Rattle.recordfine.specs.declared.open.Open.{Open}
 use Rattle.recordfine.specs.declared.front.Next.{Next}
 use Rattle.recordfine.specs.Premises.{OpenAt}
-use Rattle.recordfine.specs.Rows.{RowNear, RowTaken}
 use Rattle.recordfine.specs.Walk.{RowIn, SaysTold, RowIs, MarkedTold, FrontTold, Behind, past_first, past_vrid}
 use Rattle.recordfine.proofs.DigitLaws.{zero_first, one_digit, two_digits}
 use Rattle.recordfine.proofs.WalkLaws.{passed_start, passed_on, second_room, whole_rows}
@@ -58,26 +57,20 @@ says_three {s} {i} {n} {v} {q} {r} below few first zero read e = record {
 pub is_not : {s : List ℕ} {i : ℕ} {h : Open} {tag due long : ℕ} → RowIs s i h tag due long false
 is_not = record { tagged = λ e. never e; row = λ e. never e }
 
-pub near_not : {s : List ℕ} {i l p tag : ℕ} → RowNear s i l p tag (0 ∷ 0 ∷ 0 ∷ [])
-near_not = record { told = λ some. absurd (some refl); tagged = λ some. absurd (some refl) }
-
-pub near_so : {s : List ℕ} {i l p tag due long t : ℕ} (a b : Bool) → t ≡ tag_at s i → t ≡ tag → SaysTold s (i + 4) l long a → not a ≡ false
-    → SaysTold s (i + 4 + l) p due b → not b ≡ false → RowNear s i l p tag (tag ∷ long ∷ due ∷ [])
-unfolding row_at
-near_so a b read same length_is q place r = record {
-  told = λ some. rw (sym read ∙ same, length_is.told (not-false a q), place.told (not-false b r));
-  tagged = λ some. sym same ∙ read;
+pub is_so : {s : List ℕ} {i : ℕ} {h : Open} {tag due long x t : ℕ} (a b : Bool) → t ≡ tag_at s i → t ≡ tag → SaysTold s (i + 4) h.lengths long a → not a ≡ false
+    → SaysTold s (i + 4 + h.lengths) h.positions due b → not b ≡ false → 1 ≤ long → due + long ≤ h.end - h.body
+    → x ≡ byte_at s (h.body + (due + long) - 1)
+    → RowIs s i h tag due long (eqb x 30)
+is_so a b read same length_is p place q some within last = record {
+  tagged = λ e. sym same ∙ read;
+  row = λ e. record {
+    is = sym (length_is.told (not-false a p));
+    place = place.told (not-false b q);
+    some = some;
+    within = within;
+    ends = sym last ∙ eqb-true _ _ e;
+  };
 }
-
-pub is_so : {s : List ℕ} {i : ℕ} {h : Open} {tag due long r : ℕ} {row : List ℕ} → RowNear s i h.lengths h.positions tag row
-    → RowTaken s row h.body (h.end - h.body) due r → 1 ≤ long → RowIs s i h tag due long (eqb r long)
-is_so {s} {i} {h} {tag} {due} {long} {r} {row} near taken some =
-    let has : eqb r long ≡ true → len row ≡ 0 → ⊥ =
-    λ e z. let same : r ≡ long = eqb-true _ _ e in let is : r ≡ len row = taken.is (λ y. omega arith) in omega arith in
-    record {
-      tagged = λ e. near.tagged (has e);
-      row = λ e. let same : r ≡ long = eqb-true _ _ e in rw same at ((taken.told i h.lengths h.positions (near.told (has e))).told (λ y. omega arith));
-    }
 
 -- ---- a row whose kind is declared
 pub marked_not : {marks s : List ℕ} {i : ℕ} {h : Open} {tag due long k : ℕ} → MarkedTold marks s i h tag due long k false

@@ -2,5 +2,4 @@
 pub mod DigitLaws
 pub mod OpenLaws
 pub mod WalkLaws
-pub mod RowsLaws
 pub mod FrontLaws

@@ -13,7 +13,7 @@ use lib.Dec.{eqb}
 use borrow.Author.Tests.{le-leb, eq-eqb, eqb-true, not-false}
 use Rattle.octets.specs.Number.{byte_at}
 use Rattle.octets.proofs.Cases.{true_or_false, le_or_lt}
-use Rattle.table.specs.Table.{kind_of, FIRST}
+use Rattle.table.specs.Table.{kind_of, first}
 use Rattle.iso8211.specs.Leader.{size_at, base_at, length_digits, position_digits}
 use Rattle.iso8211.specs.Directory.{tag_at, row_at}
 use Rattle.iso8211.specs.Record.{field_good, in_row, record_good, end_of}
@@ -36,6 +36,7 @@ use Rattle.fieldfine.specs.Text.{Ended}
 use Rattle.fieldfine.specs.Place.{FieldTold}
 use Rattle.recordfine.specs.declared.open.Open.{Open}
 use Rattle.recordfine.specs.declared.Fine.{Fine}
+use Rattle.octets.specs.Premises.{Number}
 use Rattle.recordfine.specs.Premises.{OpenAt, RowGood, RowTold, FieldsTold, WholeTold, IdentifiedBy}
 use Rattle.recordfine.specs.Walk.{Now, Valued, Passed}
 use Rattle.recordfine.specs.Told.{FineTold}
@@ -44,6 +45,14 @@ never : {A : Type 0} → false ≡ true → A
 never e = absurd (let z : ◌≡◌ {A = ℕ} 0 1 = cc in omega arith)
 
 -- ---- a row
+pub row_not : {s : List ℕ} {i l p body size due long : ℕ} → long ≡ 0 → RowTold s i l p body size due long
+row_not e = record { told = λ some. absurd (some e) }
+
+pub row_so : {s : List ℕ} {i l p body size due long place : ℕ} → Number s (i + 4) l long → Number s (i + 4 + l) p place → size ≤ 99999
+    → place ≡ due → 1 ≤ long → due + long ≤ size → byte_at s (body + (due + long) - 1) ≡ 30 → RowTold s i l p body size due long
+row_so n m small at some within ends =
+    record { told = λ any. record { is = n.is; place = sym m.is ∙ at; some = some; within = within; ends = ends } }
+
 pub row_within_so : {s : List ℕ} {i l p body size due long : ℕ} → RowTold s i l p body size due long → (long ≡ 0 → ⊥) → due + long ≤ size
 row_within_so told some = (told.told some).within
 
@@ -244,6 +253,9 @@ module _ {update : Bool} {stage : ℕ} {marks : List ℕ} {aall nall : ℕ} {s :
         };
       }
 
+  pub due_most : due + long ≤ h.end - h.body
+  due_most = row.within
+
 -- ---- the answer
 pub whole_not : (due size prev : ℕ) → WholeTold due size prev false
 whole_not due size prev = record { full = λ e. never e; last = λ e. never e }
@@ -293,8 +305,8 @@ second_start update stage marks {s} {at} {h} o good none =
     let small = o.framed.small in
     let two = o.two in
     let known : FieldsIn s at = fields_row s at (size_at s at - base_at s at) (record_row false s at good) o.framed.headed (omega arith) (omega arith) in
-    let head : kind_at s at 0 ≡ FIRST = layout_head update stage marks s at none (omega arith) in
-    let full : filled FIRST (content_at s at 0) ≡ true = rw head at (layout_filled update stage marks s at none 0 (omega arith)) in
+    let head : kind_at s at 0 ≡ first = layout_head update stage marks s at none (omega arith) in
+    let full : filled first (content_at s at 0) ≡ true = rw head at (layout_filled update stage marks s at none 0 (omega arith)) in
     let long : length (content_at s at 0) ≡ 2 = full_first (content_at s at 0) full in
     let same : length (content_at s at 0) ≡ (field_at s at 0).length - 1 = content_length s at 0 known (omega arith) in
     let front = known.front in

@@ -1,5 +1,4 @@
 -- The notions of `recordfine`.
 pub mod Told
 pub mod Premises
-pub mod Rows
 pub mod Walk

@@ -5,11 +5,9 @@
 ghost use Rattle.std.specs.Prelude.{ℕ, ◌+◌, ◌≤◌, Bool, ◌≡◌, length};
 ghost use Rattle.answers.specs.Codes.{most_bytes};
 ghost use Rattle.recordfine.specs.Premises.{OpenAt};
-ghost use Rattle.recordfine.specs.Rows.{RowNear};
 ghost use Rattle.recordfine.specs.Walk.{RowIn, SaysTold, RowIs, MarkedTold, FrontTold, Behind, past_first, past_vrid};
 
 use crate::open::Open;
-use crate::row::row_fine;
 use fieldfine::single::{frid_field, vrid_field};
 use iso8211::directory::tag_at;
 use layout::place::START;
@@ -51,32 +49,25 @@ fn says(s: &[u8], i: usize, n: usize, v: usize) -> bool
     get1(s, i) as usize == 48 + v
 }
 
-// The row at i as a small array, where it is of this tag, position and length in the widths that most
-// records have; else zeros, which are no row.
-fn row_near(s: &[u8], i: usize, h: Open, tag: u32, due: usize, long: usize) -> [u32; 3]
-    requires { RowIn s.now i h × (due ≤ 99) × (long ≤ 99) }
-    ensures { RowNear s.now i h.lengths h.positions tag result }
-{
-    if tag_at(s, i) != tag {
-        return [0, 0, 0];
-    }
-    if !says(s, i + 4, h.lengths, long) {
-        return [0, 0, 0];
-    }
-    if !says(s, i + 4 + h.lengths, h.positions, due) {
-        return [0, 0, 0];
-    }
-    [tag, long as u32, due as u32]
-}
-
 // Whether the row at i is that of a field of this tag and length, due at `due`, and the field is framed
 // well.
 fn row_is(s: &[u8], i: usize, h: Open, tag: u32, due: usize, long: usize) -> bool
     requires { RowIn s.now i h × (due ≤ 99) × (1 ≤ long) × (long ≤ 99) }
     ensures { RowIs s.now i h tag due long result }
 {
-    let row = row_near(s, i, h, tag, due, long);
-    row_fine(s, row, h.body, h.end - h.body, due) == long
+    if tag_at(s, i) != tag {
+        return false;
+    }
+    if !says(s, i + 4, h.lengths, long) {
+        return false;
+    }
+    if !says(s, i + 4 + h.lengths, h.positions, due) {
+        return false;
+    }
+    if h.end - h.body < due + long {
+        return false;
+    }
+    s[h.body + (due + long) - 1] == 30
 }
 
 // Whether the row at i is that of a field of kind k with this tag and length, due at `due`, which is

@@ -1,12 +1,10 @@
-// One walk over a record that decides its framing, its layout and its values at once, on the good path
-// only. It promises the crates above that where it says "fine", framing, layout and values find no
-// fault in the record; where it says no, nothing is promised, and the general code decides. Each row
-// of the directory, each field and each byte of a text is read once. It takes the rules of a leader
-// from `iso8211`, which field may be the last from `layout`, and each field from `fieldfine`.
+// One walk over a record that decides its framing, its layout and its values at once, on the good
+// path only. It promises the crates above that where it says "fine", `iso8211`, `layout` and
+// `fieldvalue` find no fault in the record; where it says no, nothing is promised, and their general
+// code decides. Each row of the directory, each field and each byte of a text is read once.
 pub mod front;
 pub mod open;
 pub mod row;
-pub mod rows;
 
 ghost use Rattle.std.specs.Prelude.{◌+◌, ◌-◌, ◌≤◌, ◌≡◌, length, take, drop};
 ghost use Rattle.answers.specs.Codes.{most_bytes};
@@ -20,7 +18,6 @@ ghost use Rattle.recordfine.specs.Premises.{OpenAt, FieldsTold, WholeTold, Ident
 use crate::front::front;
 use crate::open::{Open, opened};
 use crate::row::row_fine;
-use crate::rows::batch;
 use fieldfine::field_fine;
 use fieldfine::place::stamp_of;
 use iso8211::directory::tag_at;
@@ -108,27 +105,17 @@ fn fields_fine(
     let mut stamp = next.stamp;
     let mut due = next.due;
     let mut i = next.row;
-    if stop <= i {
-        return is_whole(due, size, prev);
-    }
-    let mut rows = batch(s, l, p, i, stop);
-    let mut k: usize = 0;
     while i < stop {
-        if k == 2 {
-            rows = batch(s, l, p, i, stop);
-            k = 0;
-        }
-        let row = rows[k];
-        let long = row_fine(s, row, body, size, due);
+        let long = row_fine(s, i, l, p, body, size, due);
         if long == 0 {
             return false;
         }
         let fresh = i as u32;
-        let kind = field_at(
+        let k = field_at(
             s,
             body + due,
             long,
-            row[0],
+            tag_at(s, i),
             prev,
             marks,
             update,
@@ -139,14 +126,13 @@ fn fields_fine(
             stamp,
             fresh,
         );
-        if kind == START {
+        if k == START {
             return false;
         }
-        stamp = stamp_of(prev == kind, stamp, fresh);
-        prev = kind;
+        stamp = stamp_of(prev == k, stamp, fresh);
+        prev = k;
         due += long;
         i += 4 + l + p;
-        k += 1;
     }
     is_whole(due, size, prev)
 }

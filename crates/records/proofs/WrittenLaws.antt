@@ -22,7 +22,7 @@ use Rattle.iso8211.proofs.Promise.{fields_row}
 use Rattle.records.specs.Pieces.{Piece}
 use Rattle.records.specs.Premises.{piece_of, pieces_from, pieces_at}
 use Rattle.records.specs.Written.{tag_bytes, piece_length, body_of, rows_for, longest, farthest, length_size, position_size, row_bytes, rows_bytes, base_for, leader_of, head_over}
-use Rattle.records.specs.Written.{head_bytes, record_bytes, size_of, Writable}
+use Rattle.records.specs.Written.{head_bytes, record_bytes, size_of, Fits}
 
 -- ---- lengths
 pub rows_count : (fs : List Piece) (due : ℕ) → length (rows_for due fs) ≡ length fs
@@ -169,7 +169,7 @@ pub record Loose (fs : List Piece) : Type 0 where
   pub short : base_for (rows_for 0 fs) ≤ 99999
   pub small : size_of fs ≤ 300000
 
-pub fits_loose : {fs : List Piece} → Writable fs → Loose fs
+pub fits_loose : {fs : List Piece} → Fits fs → Loose fs
 unfolding size_of
 fits_loose {fs} fit = let small : base_for (rows_for 0 fs) + length (body_of fs) ≤ 99999 = fit.small in record { some = fit.some; short = omega arith; small = omega arith }
 
@@ -301,7 +301,7 @@ pub record RecordRead (s : List ℕ) (at : ℕ) (fs : List Piece) : Type 0 where
 less : (a b : ℕ) → a + b - a ≡ b
 less a b = omega arith
 
-pub record_read : (fs : List Piece) {s : List ℕ} {at : ℕ} → Writable fs → Has s at (record_bytes fs) → RecordRead s at fs
+pub record_read : (fs : List Piece) {s : List ℕ} {at : ℕ} → Fits fs → Has s at (record_bytes fs) → RecordRead s at fs
 unfolding record_bytes head_bytes head_over size_of record_good body_good
 record_read fs {s} {at} fit h =
     let es = rows_for 0 fs in

@@ -24,7 +24,7 @@ use Rattle.changes.specs.Change.{change_of}
 use Rattle.changes.specs.Updated.{updated_header}
 use Rattle.resultitems.specs.Items.{objects_in, written_by, most_by, AllSized}
 use Rattle.revisedfront.specs.Front.{Found, front_bytes, FrontSized}
-use Rattle.renewal.specs.Renewed.{revised_header, renewed, result_front}
+use Rattle.renewal.specs.Renewed.{revised_header, renewed, front_of}
 use Rattle.revisedfront.specs.declared.front.Fronts.{Fronts}
 use Rattle.resultitems.proofs.AllLaws.{objects_length}
 
@@ -49,20 +49,20 @@ module _ (cell update : List ℕ) (os : List Item) where
   unfolding records_bytes written_by
   bytes_are = ap records_bytes records_are
 
-  held_parts : held_of (renewed cell update os) ≡ result_front cell update os ++ written_by 3 os
-  unfolding result_front front_bytes
+  held_parts : held_of (renewed cell update os) ≡ front_of cell update os ++ written_by 3 os
+  unfolding front_of front_bytes
   held_parts =
       rw bytes_are
       (sym (append_assoc first_record (record_bytes dsid ++ record_bytes dspm) (written_by 3 os)
       ∙ ap (λ (x : List ℕ). first_record ++ x) (append_assoc (record_bytes dsid) (record_bytes dspm) (written_by 3 os))))
 
-  held_length : length (held_of (renewed cell update os)) ≡ length (result_front cell update os) + length (written_by 3 os)
-  held_length = ap length held_parts ∙ length-append (result_front cell update os) (written_by 3 os)
+  held_length : length (held_of (renewed cell update os)) ≡ length (front_of cell update os) + length (written_by 3 os)
+  held_length = ap length held_parts ∙ length-append (front_of cell update os) (written_by 3 os)
 
   -- ---- the plan
   module _ {front items : Sizes} (first : FrontSized cell update front) (rest : AllSized os items) where
     total_is : length (held_of (renewed cell update os)) ≡ front.sum + items.sum
-    unfolding result_front
+    unfolding front_of
     total_is = held_length ∙ rw (← (first.sum_is (tally_in os)), ← rest.sum_is)
 
     longest_is : longest_of (records_of (renewed cell update os)) ≡ max front.most items.most
@@ -85,25 +85,25 @@ result_told cell update work end count edits most total fit front items first re
     plan_told cell update (objects_in cell update work end count edits) first rest count most total fit (objects_length cell update work end count edits) em et told
 
 -- ---- records 0 to 2, with the counts that were taken
-front_as : {cell update : List ℕ} {f : Fronts} → Found cell update f → (os : List Item) (t : Tally) → t ≡ tally_in os → front_bytes cell update f t ≡ result_front cell update os
-unfolding result_front
+front_as : {cell update : List ℕ} {f : Fronts} → Found cell update f → (os : List Item) (t : Tally) → t ≡ tally_in os → front_bytes cell update f t ≡ front_of cell update os
+unfolding front_of
 front_as found os t counted = rw (counted, found.is)
 
 module _ {cell update : List ℕ} {f : Fronts} (found : Found cell update f) (os : List Item) (t : Tally) (counted : t ≡ tally_in os) where
-  pub fore_room : (n : ℕ) → length (result_front cell update os) ≤ n → length (front_bytes cell update f t) ≤ n
+  pub fore_room : (n : ℕ) → length (front_of cell update os) ≤ n → length (front_bytes cell update f t) ≤ n
   fore_room n h = rw (front_as found os t counted) h
 
-  pub fore_put : {a b : List ℕ} {r : ℕ} → Wrote a 0 (front_bytes cell update f t) b r → Wrote a 0 (result_front cell update os) b r
-  fore_put w = wrote_as (result_front cell update os) (front_as found os t counted) w
+  pub fore_put : {a b : List ℕ} {r : ℕ} → Wrote a 0 (front_bytes cell update f t) b r → Wrote a 0 (front_of cell update os) b r
+  fore_put w = wrote_as (front_of cell update os) (front_as found os t counted) w
 
 -- ---- then the items
 module _ (cell update : List ℕ) (os : List Item) where
-  pub front_room : (n : ℕ) → length (held_of (renewed cell update os)) ≤ n → length (result_front cell update os) ≤ n
+  pub front_room : (n : ℕ) → length (held_of (renewed cell update os)) ≤ n → length (front_of cell update os) ≤ n
   front_room n h = omega (arith, held_length cell update os)
 
-  pub items_room : {a b : List ℕ} {q : ℕ} → length (held_of (renewed cell update os)) ≤ length a → Wrote a 0 (result_front cell update os) b q
+  pub items_room : {a b : List ℕ} {q : ℕ} → length (held_of (renewed cell update os)) ≤ length a → Wrote a 0 (front_of cell update os) b q
       → q + length (written_by 3 os) ≤ length b
   items_room h w = omega (arith, held_length cell update os, w.end, wrote_length w)
 
-  pub result_put : {a b d : List ℕ} {q r : ℕ} → Wrote a 0 (result_front cell update os) b q → Wrote b q (written_by 3 os) d r → Wrote a 0 (held_of (renewed cell update os)) d r
+  pub result_put : {a b d : List ℕ} {q r : ℕ} → Wrote a 0 (front_of cell update os) b q → Wrote b q (written_by 3 os) d r → Wrote a 0 (held_of (renewed cell update os)) d r
   result_put w x = wrote_as (held_of (renewed cell update os)) (sym (held_parts cell update os)) (wrote_join w x)

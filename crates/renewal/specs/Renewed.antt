@@ -24,8 +24,8 @@ abbrev pub renewed : List ℕ → List ℕ → List Item → Chart
 renewed cell update os = record { header = revised_header cell update; items = os }
 
 -- its records 0 to 2, with its true counts
-unfoldable pub result_front : List ℕ → List ℕ → List Item → List ℕ
-result_front cell update os = front_bytes cell update (fronts_of cell update) (tally_in os)
+unfoldable pub front_of : List ℕ → List ℕ → List Item → List ℕ
+front_of cell update os = front_bytes cell update (fronts_of cell update) (tally_in os)
 
 -- a cell and an update whose result can be written: its items stand in the work area
 pub record Renewing (cell update work : List ℕ) (end count edits : ℕ) : Type 0 where

@@ -7,7 +7,7 @@ ghost use Rattle.held.specs.Held.{held_of};
 ghost use Rattle.reissue.specs.Plan.{Planned};
 ghost use Rattle.resultitems.specs.Able.{Rooms};
 ghost use Rattle.resultitems.specs.Items.{objects_in};
-ghost use Rattle.renewal.specs.Renewed.{renewed, result_front, Renewing};
+ghost use Rattle.renewal.specs.Renewed.{renewed, front_of, Renewing};
 ghost use Rattle.renewal.specs.Same.{Told, AllSame};
 
 use crate::all::{measure, put_items};
@@ -62,8 +62,8 @@ fn put_fore(
     out: &mut [u8],
 ) -> usize
     requires { Renewing cell.now update.now work.now end count edits
-        × (length (result_front cell.now update.now (objects_in cell.now update.now work.now end count edits)) ≤ length out.old) }
-    ensures { Wrote out.old 0 (result_front cell.now update.now
+        × (length (front_of cell.now update.now (objects_in cell.now update.now work.now end count edits)) ≤ length out.old) }
+    ensures { Wrote out.old 0 (front_of cell.now update.now
         (objects_in cell.now update.now work.now end count edits)) out.new result }
 {
     let counts = tally_items(cell, update, work, end, count, edits);

@@ -9,13 +9,13 @@ use Rattle.itemrows.specs.Plain.{Writable}
 use Rattle.items.specs.Word.{mark_of, marked_offset}
 use Rattle.merge.specs.Places.{places_of, Woof}
 use Rattle.merge.specs.declared.walk.At.{At}
-use Rattle.amend.specs.Sides.{AmendAreas}
+use Rattle.amend.specs.Sides.{Areas}
 use Rattle.raising.specs.Record.{Editable}
 use Rattle.resultitems.specs.Result.{object_of}
 
 -- the lent areas, in which the record of an item that the update modifies is built
 pub record Rooms (join table room : List ℕ) : Type 0 where
-  pub areas : AmendAreas join table
+  pub areas : Areas join table
   pub long : 200500 ≤ length room
 
 -- an item that the update modifies: its record can be built, and is one of a chart

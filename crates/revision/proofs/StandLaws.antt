@@ -30,7 +30,7 @@ use Rattle.itemrows.specs.Plain.{Writable}
 use Rattle.writing.proofs.WritableLaws.{cell_writable, insert_writable}
 use Rattle.merge.specs.Files.{RecordOf}
 use Rattle.changes.specs.Change.{Amendment, amendment_at, edit_of, change_of}
-use Rattle.changes.specs.Amend.{kinds_of, identity_same, edit_allowed, modify_code, target_code, amendment_code, amendments_fault}
+use Rattle.changes.specs.Amend.{kinds_of, identity_same, edit_allowed, modify_code, found_code, amendment_code, amendments_fault}
 use Rattle.changes.specs.Updated.{amended}
 use Rattle.changes.specs.Good.{ObjectBrought}
 use Rattle.changes.specs.Good.ObjectBrought.{brought_vector, brought_feature}
@@ -60,8 +60,8 @@ target_none : (z : Bool) (rest : ℕ) → cond z 13 rest ≡ 0 → rest ≡ 0
 target_none true rest h = absurd (omega arith)
 target_none false rest h = h
 
-modify_parts : (a : Amendment) (t : Item) → target_code a (some t) ≡ 0 → (a.object.version ≡ t.version + 1) × (edit_allowed a t ≡ true)
-unfolding target_code modify_code
+modify_parts : (a : Amendment) (t : Item) → found_code a (some t) ≡ 0 → (a.object.version ≡ t.version + 1) × (edit_allowed a t ≡ true)
+unfolding found_code modify_code
 modify_parts a t h =
     let v = version_none a.object.version (t.version + 1) _ (target_none (eqb a.ruin 1) _ h) in
     (v.0, identity_none (identity_same a.object t) (edit_allowed a t) v.1)
@@ -130,7 +130,7 @@ module _ {cell : List ℕ} {n : ℕ} {update : List ℕ} {m : ℕ} (f : Followin
     parts =
         modify_parts (amendment_at update by) (item_at cell at)
         (code_some cell (sorted (name_words false cell n)) update by amendable (name_at update by) refl (lookup (sorted (name_words false cell n)) (name_at update by)) refl at
-        found (target_code (amendment_at update by) (some (item_at cell at))) refl ∙ code)
+        found (found_code (amendment_at update by) (some (item_at cell at))) refl ∙ code)
 
     pub stand_changed : Modifies cell at update by
     unfolding change_of header_of name_at

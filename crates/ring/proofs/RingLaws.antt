@@ -1,6 +1,6 @@
 -- Laws of the walk along an area's edges, where "the answer from here is the answer from the start". Assumes nothing.
 use Prim.Native.Nat.{ℕ, ◌-◌, ◌≤◌, ◌<◌}
-use mathlib.Core.Bool.{Bool, true, false, not, cond}
+use mathlib.Core.Bool.{Bool, true, false, not, cond, ◌&&◌}
 use mathlib.Core.List.{List, [], ◌∷◌}
 use mathlib.Core.Path.{◌≡◌, refl, sym, ap, ◌∙◌}
 use native.Mathlib.Omega.{arith}
@@ -10,7 +10,7 @@ use borrow.Author.Tests.{eq-eqb, ne_eqb}
 use Rattle.octets.proofs.Tests.{told_no, told_yes}
 use Rattle.table.specs.Table.{FSPT}
 use Rattle.items.specs.Lists.{entries_at}
-use Rattle.items.specs.Cursors.{left, CursorIn, Stepped}
+use Rattle.items.specs.Cursors.{left, Stepped}
 use Rattle.items.specs.declared.cursor.Cursor.{Cursor}
 use Rattle.items.specs.declared.cursor.Next.{Next}
 use Rattle.items.specs.declared.cursor.Next.TheVariants.{Entry, Done}
@@ -22,118 +22,111 @@ use Rattle.lookups.proofs.LookupLaws.{code_at, code_nothing}
 use Rattle.pointer.specs.Pointer.{names_code}
 use Rattle.answers.specs.First.{first_code, first_by}
 use Rattle.ring.specs.declared.step.Step.{Step}
-use Rattle.ring.specs.declared.Rings.{Rings}
-use Rattle.ring.specs.declared.Rings.TheVariants.{Closed, Broken, Missing}
-use Rattle.ring.specs.Walk.{behind, walked, rings_of, rings_code, area_code}
+use Rattle.ring.specs.declared.step.Taken.{Taken}
+use Rattle.ring.specs.declared.step.Taken.TheVariants.{Edge, Missing}
+use Rattle.ring.specs.Walk.{taken_with, taken_of, behind, named_and, area_closed, area_code}
 use Rattle.ring.specs.Ring.{step_of, usage_good, along, rings_from, rings_good}
 
--- ---- what an edge tells of the names: f is the answer of its look-up
-module _ (place : ℕ → Found) (e : List ℕ) (es : List (List ℕ)) (good : Bool) (f : Found) (told : f ≡ place (name_in e)) where
-  walked_missing : f ≡ Nothing → walked place (e ∷ es) good ≡ Missing
-  unfolding walked names_code first_by
-  walked_missing h = rw (← told, h, code_nothing)
+-- ---- what an edge tells of the names
+edge_told : (f : Found) (t u : Step) → taken_with f u ≡ Edge t → (found_code f ≡ 0) × (u ≡ t)
+unfolding taken_with
+edge_told (At k) t u e = (code_at k, cc)
+edge_told Nothing t u e = absurd (let z : ◌≡◌ {A = ℕ} 0 1 = cc in omega arith)
 
-  walked_on : (i : ℕ) → f ≡ At i → walked place (e ∷ es) good ≡ walked place es good
-  unfolding walked names_code first_by
-  walked_on i h = rw (← told, h, code_at i)
+missing_told : (f : Found) (u : Step) → taken_with f u ≡ Missing → found_code f ≡ 18
+unfolding taken_with
+missing_told (At k) u e = absurd (let z : ◌≡◌ {A = ℕ} 0 1 = cc in omega arith)
+missing_told Nothing u e = code_nothing
 
--- ---- what it tells of the rings: t is the step along it
-module _ (node : ℕ → ℕ → ℕ) (e : List ℕ) (es : List (List ℕ)) (t : Step) (is : t ≡ step_of node e) where
-  -- an edge between two rings, and one in a ring that came to `here`
-  pub edge_first : (exterior : Bool) → rings_from node exterior false 0 0 (e ∷ es) ≡ behind node exterior t.from t es
-  unfolding rings_from along behind
-  edge_first exterior = rw (← is, eq-eqb t.from t.from refl)
+bad_rings : (place : ℕ → Found) (es : List (List ℕ)) → named_and place es false ≡ false
+unfolding named_and
+bad_rings place es = by (eqb (names_code place es) 0) where
+  by : (b : Bool) → b && false ≡ false
+  by true = refl
+  by false = refl
 
-  pub edge_joined : (exterior : Bool) (start here : ℕ) → t.from ≡ here → rings_from node exterior true start here (e ∷ es) ≡ behind node exterior start t es
-  unfolding rings_from along behind
-  edge_joined exterior start here h = rw (← is, eq-eqb t.from here h)
+module _ (place : ℕ → Found) (node : ℕ → ℕ → ℕ) (e : List ℕ) (es : List (List ℕ)) (k : Taken) (told : k ≡ taken_of place node e) where
+  missing_names : (good : Bool) → k ≡ Missing → named_and place (e ∷ es) good ≡ false
+  unfolding named_and names_code first_by taken_of
+  missing_names good m = rw (missing_told (place (name_in e)) (step_of node e) (sym told ∙ m))
 
-  edge_apart : (exterior : Bool) (start here : ℕ) → (t.from ≡ here → ⊥) → rings_from node exterior true start here (e ∷ es) ≡ false
-  unfolding rings_from along
-  edge_apart exterior start here ne = rw (← is, ne_eqb t.from here ne)
+  module _ (t : Step) (is : k ≡ Edge t) where
+    named_on : (good : Bool) → named_and place (e ∷ es) good ≡ named_and place es good
+    unfolding named_and names_code first_by taken_of
+    named_on good = rw (edge_told (place (name_in e)) t (step_of node e) (sym told ∙ is)).0
 
--- ---- the names behind a ring that breaks
-module _ (place : ℕ → Found) (s : List ℕ) (at : ℕ) (c : Cursor) (all : Rings) (so : all ≡ walked place (left s at FSPT c) false) (r : Next) (stepped : Stepped s at FSPT c r) where
-  pub rest_end : r ≡ Done → Broken ≡ all
-  unfolding walked names_code
-  rest_end e = sym (so ∙ rw (next_done s at FSPT c r stepped e))
+    step_is : step_of node e ≡ t
+    unfolding taken_of
+    step_is = (edge_told (place (name_in e)) t (step_of node e) (sym told ∙ is)).1
 
-  module _ (from to : ℕ) (next : Cursor) (is : r ≡ Entry from to next) (f : Found) (told : f ≡ place (name_in (take (to - from) (drop from s)))) where
-    pub rest_missing : f ≡ Nothing → Missing ≡ all
-    rest_missing h = sym (so ∙ rw (next_left s at FSPT c r stepped from to next is) (walked_missing place _ _ _ f told h))
+    -- an edge between two rings, and one in a ring that came to `here`
+    pub edge_first : (exterior : Bool) → named_and place (e ∷ es) (rings_from node exterior false 0 0 (e ∷ es)) ≡ named_and place es (behind node exterior t.from t es)
+    unfolding rings_from along behind
+    edge_first exterior = named_on _ ∙ rw (step_is, eq-eqb t.from t.from refl)
 
-    pub rest_on : (i : ℕ) → f ≡ At i → all ≡ walked place (left s at FSPT next) false
-    rest_on i h = so ∙ rw (next_left s at FSPT c r stepped from to next is) (walked_on place _ _ _ f told i h)
+    pub edge_joined : (exterior : Bool) (start here : ℕ) → t.from ≡ here
+        → named_and place (e ∷ es) (rings_from node exterior true start here (e ∷ es)) ≡ named_and place es (behind node exterior start t es)
+    unfolding rings_from along behind
+    edge_joined exterior start here h = named_on _ ∙ rw (step_is, eq-eqb t.from here h)
+
+    edge_apart : (exterior : Bool) (start here : ℕ) → (t.from ≡ here → ⊥) → named_and place (e ∷ es) (rings_from node exterior true start here (e ∷ es)) ≡ false
+    unfolding rings_from along
+    edge_apart exterior start here ne = named_on _ ∙ rw (step_is, ne_eqb t.from here ne) (bad_rings place es)
 
 -- ---- before the first edge
 pub rings_begin : (place : ℕ → Found) (node : ℕ → ℕ → ℕ) (s : List ℕ) (at : ℕ) (c : Cursor) → c ≡ record { field = 0; from = 0; to = 0 }
-    → rings_of place node (entries_at s at FSPT) ≡ walked place (left s at FSPT c) (rings_from node true false 0 0 (left s at FSPT c))
-unfolding rings_of rings_good
-rings_begin place node s at c e = ap (λ (es : List (List ℕ)). walked place es (rings_from node true false 0 0 es)) (sym (begin_left s at FSPT c e))
+    → area_closed place node (entries_at s at FSPT) ≡ named_and place (left s at FSPT c) (rings_from node true false 0 0 (left s at FSPT c))
+unfolding area_closed rings_good
+rings_begin place node s at c e = ap (λ (es : List (List ℕ)). named_and place es (rings_from node true false 0 0 es)) (sym (begin_left s at FSPT c e))
 
 -- ---- between two rings
-module _ (place : ℕ → Found) (node : ℕ → ℕ → ℕ) (exterior : Bool) (s : List ℕ) (at : ℕ) (c : Cursor) (all : Rings)
-    (so : all ≡ walked place (left s at FSPT c) (rings_from node exterior false 0 0 (left s at FSPT c)))
+module _ (place : ℕ → Found) (node : ℕ → ℕ → ℕ) (exterior : Bool) (s : List ℕ) (at : ℕ) (c : Cursor) (all : Bool)
+    (so : all ≡ named_and place (left s at FSPT c) (rings_from node exterior false 0 0 (left s at FSPT c)))
     (r : Next) (stepped : Stepped s at FSPT c r) where
-  pub rings_end : r ≡ Done → Closed ≡ all
-  unfolding walked names_code rings_from
+  pub rings_end : r ≡ Done → true ≡ all
+  unfolding named_and names_code rings_from
   rings_end e = sym (so ∙ rw (next_done s at FSPT c r stepped e))
 
-  module _ (from to : ℕ) (next : Cursor) (is : r ≡ Entry from to next) (f : Found) (told : f ≡ place (name_in (take (to - from) (drop from s)))) where
-    pub first_missing : f ≡ Nothing → Missing ≡ all
-    first_missing h = sym (so ∙ rw (next_left s at FSPT c r stepped from to next is) (walked_missing place _ _ _ f told h))
+  module _ (from to : ℕ) (next : Cursor) (is : r ≡ Entry from to next) (k : Taken) (told : k ≡ taken_of place node (take (to - from) (drop from s))) where
+    pub first_missing : k ≡ Missing → false ≡ all
+    first_missing m = sym (so ∙ rw (next_left s at FSPT c r stepped from to next is) (missing_names place node _ _ k told _ m))
 
     -- a ring starts where its first edge does
-    pub ring_begin : (i : ℕ) → f ≡ At i → (t : Step) → t ≡ step_of node (take (to - from) (drop from s))
-        → all ≡ walked place (left s at FSPT next) (behind node exterior t.from t (left s at FSPT next))
-    ring_begin i h t step =
-        so
-        ∙ rw (next_left s at FSPT c r stepped from to next is)
-        (walked_on place _ _ _ f told i h ∙ ap (λ (good : Bool). walked place (left s at FSPT next) good) (edge_first node _ _ t step exterior))
+    pub ring_begin : (t : Step) → k ≡ Edge t → all ≡ named_and place (left s at FSPT next) (behind node exterior t.from t (left s at FSPT next))
+    ring_begin t e = so ∙ rw (next_left s at FSPT c r stepped from to next is) (edge_first place node _ _ k told t e exterior)
 
--- ---- in a ring, behind the edge t; where it breaks, b tells of the names from the cursor d on
-module _ (place : ℕ → Found) (node : ℕ → ℕ → ℕ) (exterior : Bool) (start : ℕ) (t : Step) (s : List ℕ) (at : ℕ) (c : Cursor) (all : Rings)
-    (so : all ≡ walked place (left s at FSPT c) (behind node exterior start t (left s at FSPT c)))
+-- ---- in a ring, behind the edge t
+module _ (place : ℕ → Found) (node : ℕ → ℕ → ℕ) (exterior : Bool) (start : ℕ) (t : Step) (s : List ℕ) (at : ℕ) (c : Cursor) (all : Bool)
+    (so : all ≡ named_and place (left s at FSPT c) (behind node exterior start t (left s at FSPT c)))
     (q : Bool) (used : q ≡ usage_good exterior t.usage) where
-  pub ring_misused : not q ≡ true → (d : Cursor) → d ≡ c → (b : Rings) → b ≡ walked place (left s at FSPT d) false → b ≡ all
+  pub ring_misused : not q ≡ true → false ≡ all
   unfolding behind
-  ring_misused h d e b rest = rest ∙ rw e (sym (so ∙ rw (told_no q (usage_good exterior t.usage) used h)))
+  ring_misused h = sym (so ∙ rw (told_no q (usage_good exterior t.usage) used h) (bad_rings place (left s at FSPT c)))
 
   module _ (h : not q ≡ false) where
-    pub ring_closed : t.to ≡ start → all ≡ walked place (left s at FSPT c) (rings_from node false false 0 0 (left s at FSPT c))
+    pub ring_closed : t.to ≡ start → all ≡ named_and place (left s at FSPT c) (rings_from node false false 0 0 (left s at FSPT c))
     unfolding behind
     ring_closed e = so ∙ rw (told_yes q (usage_good exterior t.usage) used h, eq-eqb t.to start e)
 
     module _ (ne : t.to ≡ start → ⊥) (r : Next) (stepped : Stepped s at FSPT c r) where
-      onward : all ≡ walked place (left s at FSPT c) (rings_from node exterior true start t.to (left s at FSPT c))
+      onward : all ≡ named_and place (left s at FSPT c) (rings_from node exterior true start t.to (left s at FSPT c))
       unfolding behind
       onward = so ∙ rw (told_yes q (usage_good exterior t.usage) used h, ne_eqb t.to start ne)
 
-      pub ring_open : r ≡ Done → (d : Cursor) → d ≡ c → (b : Rings) → b ≡ walked place (left s at FSPT d) false → b ≡ all
+      pub ring_open : r ≡ Done → false ≡ all
       unfolding rings_from
-      ring_open none d e b rest = rest ∙ rw e (sym (onward ∙ rw (next_done s at FSPT c r stepped none)))
+      ring_open e = sym (onward ∙ rw (next_done s at FSPT c r stepped e) (bad_rings place []))
 
-      module _ (from to : ℕ) (next : Cursor) (is : r ≡ Entry from to next) (f : Found) (told : f ≡ place (name_in (take (to - from) (drop from s)))) where
-        pub next_missing : f ≡ Nothing → Missing ≡ all
-        next_missing m = sym (onward ∙ rw (next_left s at FSPT c r stepped from to next is) (walked_missing place _ _ _ f told m))
+      module _ (from to : ℕ) (next : Cursor) (is : r ≡ Entry from to next) (k : Taken) (told : k ≡ taken_of place node (take (to - from) (drop from s))) where
+        pub next_missing : k ≡ Missing → false ≡ all
+        next_missing m = sym (onward ∙ rw (next_left s at FSPT c r stepped from to next is) (missing_names place node _ _ k told _ m))
 
-        module _ (i : ℕ) (there : f ≡ At i) (u : Step) (step : u ≡ step_of node (take (to - from) (drop from s))) where
-          next_named : (good : Bool) → rings_from node exterior true start t.to (take (to - from) (drop from s) ∷ left s at FSPT next) ≡ good
-              → all ≡ walked place (left s at FSPT next) good
-          next_named good e =
-              onward
-              ∙ rw (next_left s at FSPT c r stepped from to next is)
-              (walked_on place _ _ _ f told i there ∙ ap (λ (g : Bool). walked place (left s at FSPT next) g) e)
+        module _ (u : Step) (e : k ≡ Edge u) where
+          pub ring_apart : (u.from ≡ t.to → ⊥) → false ≡ all
+          ring_apart apart = sym (onward ∙ rw (next_left s at FSPT c r stepped from to next is) (edge_apart place node _ _ k told u e exterior start t.to apart))
 
-          pub ring_apart : (u.from ≡ t.to → ⊥) → (d : Cursor) → d ≡ next → (b : Rings) → b ≡ walked place (left s at FSPT d) false → b ≡ all
-          ring_apart apart d e b rest = rest ∙ rw e (sym (next_named false (edge_apart node _ _ u step exterior start t.to apart)))
-
-          pub ring_on : u.from ≡ t.to → all ≡ walked place (left s at FSPT next) (behind node exterior start u (left s at FSPT next))
-          ring_on joined = next_named _ (edge_joined node _ _ u step exterior start t.to joined)
-
--- ---- the cursor behind a ring that breaks
-pub same_cursor : (s : List ℕ) (at : ℕ) (c d : Cursor) → d ≡ c → CursorIn s at FSPT c → CursorIn s at FSPT d
-same_cursor s at c d e inside = rw e inside
+          pub ring_on : u.from ≡ t.to → all ≡ named_and place (left s at FSPT next) (behind node exterior start u (left s at FSPT next))
+          ring_on joined = onward ∙ rw (next_left s at FSPT c r stepped from to next is) (edge_joined place node _ _ k told u e exterior start t.to joined)
 
 -- ---- the edges left grow fewer
 module _ (s : List ℕ) (at : ℕ) (c : Cursor) (r : Next) (stepped : Stepped s at FSPT c r) (from to : ℕ) (next : Cursor) (is : r ≡ Entry from to next) where
@@ -143,34 +136,30 @@ module _ (s : List ℕ) (at : ℕ) (c : Cursor) (r : Next) (stepped : Stepped s 
   pub few_still : (n : ℕ) → length (left s at FSPT c) ≤ n → length (left s at FSPT next) ≤ n
   few_still n few = omega (arith, next_less s at FSPT c r stepped from to next is)
 
--- ---- the code of an area: r is the answer of the walk
-module _ (place : ℕ → Found) (node : ℕ → ℕ → ℕ) (es : List (List ℕ)) (r : Rings) (judged : r ≡ rings_of place node es) where
-  pub area_closed : r ≡ Closed → 0 ≡ area_code place node es
-  unfolding area_code rings_code
-  area_closed h = rw (← judged, h)
+-- ---- the code of an area: good is the answer of the walk, n the code of its names
+both_good : (n : ℕ) (rings : Bool) → (eqb n 0 && rings) ≡ true → 0 ≡ first_code n (cond rings 0 19)
+unfolding first_by
+both_good n rings h = by (eqb n 0) rings h where
+  by : (z b : Bool) → (z && b) ≡ true → 0 ≡ cond z (cond b 0 19) n
+  by true true h = refl
+  by true false h = absurd (let z : ◌≡◌ {A = ℕ} 0 1 = cc in omega arith)
+  by false b h = absurd (let z : ◌≡◌ {A = ℕ} 0 1 = cc in omega arith)
 
-  pub area_broken : r ≡ Broken → 19 ≡ area_code place node es
-  unfolding area_code rings_code
-  area_broken h = rw (← judged, h)
+rings_bad : (n : ℕ) (rings : Bool) → (eqb n 0 && rings) ≡ false → n ≡ 0 → 19 ≡ first_code n (cond rings 0 19)
+unfolding first_by
+rings_bad n rings h z = by rings (rw z at h) where
+  by : (b : Bool) → b ≡ false → 19 ≡ cond (eqb n 0) (cond b 0 19) n
+  by b e = rw (z, e)
 
-  pub area_missing : r ≡ Missing → 18 ≡ area_code place node es
-  unfolding area_code rings_code
-  area_missing h = rw (← judged, h)
+module _ (place : ℕ → Found) (node : ℕ → ℕ → ℕ) (es : List (List ℕ)) (good : Bool) (judged : good ≡ area_closed place node es) where
+  pub area_good_lem : good ≡ true → 0 ≡ area_code place node es
+  unfolding area_code area_closed named_and
+  area_good_lem h = both_good (names_code place es) (rings_good node es) (sym judged ∙ h)
 
--- a name has no other code than 18
-found_two : (f : Found) (n : ℕ) (rings : Bool) → rings_code (cond (eqb n 0) (cond rings Closed Broken) Missing) ≡ first_code n (cond rings 0 19)
-    → rings_code (cond (eqb (first_code (found_code f) n) 0) (cond rings Closed Broken) Missing) ≡ first_code (first_code (found_code f) n) (cond rings 0 19)
-unfolding rings_code first_by found_code
-found_two (At k) n rings e = e
-found_two Nothing n rings e = refl
+  pub area_missing : (n : ℕ) → n ≡ names_code place es → (n ≡ 0 → ⊥) → n ≡ area_code place node es
+  unfolding area_code first_by
+  area_missing n named ne = rw (← named, ne_eqb n 0 ne)
 
-walked_code : (place : ℕ → Found) (es : List (List ℕ)) (rings : Bool) → rings_code (walked place es rings) ≡ first_code (names_code place es) (cond rings 0 19)
-unfolding walked names_code rings_code first_by
-walked_code place [] true = refl
-walked_code place [] false = refl
-walked_code place (e ∷ es) rings = found_two (place (name_in e)) (names_code place es) rings (walked_code place es rings)
-
--- Pointer, and then Ring
-pub area_code_lem : (place : ℕ → Found) (node : ℕ → ℕ → ℕ) (es : List (List ℕ)) → area_code place node es ≡ first_code (names_code place es) (cond (rings_good node es) 0 19)
-unfolding area_code rings_of
-area_code_lem place node es = walked_code place es (rings_good node es)
+  pub area_open : (n : ℕ) → good ≡ false → n ≡ names_code place es → n ≡ 0 → 19 ≡ area_code place node es
+  unfolding area_code area_closed named_and
+  area_open n h named z = rings_bad (names_code place es) (rings_good node es) (sym judged ∙ h) (sym named ∙ z)

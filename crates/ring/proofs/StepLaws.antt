@@ -2,7 +2,7 @@
 use Prim.Native.Nat.{ℕ, zero, suc, ◌+◌, ◌*◌, ◌/◌, ◌%◌, ◌≤◌, ◌<◌}
 use mathlib.Core.Bool.{Bool, true, false, not}
 use mathlib.Core.List.{List, [], ◌∷◌}
-use mathlib.Core.Path.{◌≡◌, refl, sym, ap, ◌∙◌}
+use mathlib.Core.Path.{◌≡◌, refl, sym, ◌∙◌}
 use native.Mathlib.Omega.{arith}
 use lib.ListN.{length, get_or}
 use lib.Dec.{eqb}
@@ -13,18 +13,12 @@ use Rattle.octets.proofs.Tests.{told_no, told_yes}
 use Rattle.entries.specs.Rules.{through}
 use Rattle.words.specs.Words.{word_at, words_in}
 use Rattle.words.proofs.WordsLaws.{words_length, words_at}
-use Rattle.table.specs.Table.{FSPT}
-use Rattle.items.specs.Cursors.{Stepped}
-use Rattle.items.specs.declared.cursor.Cursor.{Cursor}
-use Rattle.items.specs.declared.cursor.Next.{Next}
-use Rattle.items.specs.declared.cursor.Next.TheVariants.{Entry}
-use Rattle.items.proofs.CursorLaws.{next_up, next_within, next_bytes}
-use Rattle.items.proofs.KindLaws.{fspt_fixed}
 use Rattle.lookups.specs.Lookup.{name_in}
 use Rattle.lookups.specs.LookupWords.{index_of}
 use Rattle.lookups.specs.declared.lookup.Found.{Found}
-use Rattle.lookups.specs.declared.lookup.Found.TheVariants.{At}
-use Rattle.ring.specs.Walk.{FsptIn, ends_with, node_at}
+use Rattle.lookups.specs.declared.lookup.Found.TheVariants.{At, Nothing}
+use Rattle.ring.specs.declared.step.Taken.TheVariants.{Edge, Missing}
+use Rattle.ring.specs.Walk.{ends_with, node_at, taken_with, taken_of}
 use Rattle.items.specs.Word.{end_in}
 use Rattle.ring.specs.Ring.{node_step, node_with, found, step, step_of, usage_good}
 
@@ -61,32 +55,21 @@ module _ (work : List ℕ) (m v i : ℕ) where
   pub ends_here : (x : ℕ) → i < v → x ≡ word_at work (m + i) → x ≡ get_or (words_in work m v) i 0
   ends_here x h there = there ∙ sym (words_at work m v i h)
 
--- ---- an entry of the list is an FSPT
-module _ (s : List ℕ) (at : ℕ) (c : Cursor) (r : Next) (stepped : Stepped s at FSPT c r) (from to : ℕ) (next : Cursor) (is : r ≡ Entry from to next) where
-  pub fspt_in : FsptIn s from to
-  fspt_in = record {
-    order = next_up s at FSPT c r stepped from to next is;
-    within = next_within s at FSPT c r stepped from to next is;
-    long = next_bytes s at FSPT c r stepped from to next is 8 fspt_fixed;
-  }
+-- ---- the step along an edge: f is what the look-up of its name answered
+module _ (ws ends e : List ℕ) (name : ℕ) (f : Found) (named : name ≡ name_in e) (is : f ≡ index_of ws name) where
+  pub step_missing : f ≡ Nothing → Missing ≡ taken_of (index_of ws) (node_at ws ends) e
+  unfolding taken_of taken_with
+  step_missing h = rw (← named, ← is, h)
 
--- ---- the place of its edge: f is what the look-up of its name answered
-pub edge_named : (ws e : List ℕ) (f : Found) (name : ℕ) → name ≡ name_in e → f ≡ index_of ws name → f ≡ index_of ws (name_in e)
-edge_named ws e f name read told = told ∙ ap (index_of ws) read
+  -- w is the word of its ends
+  module _ (i w a b u : ℕ) (at : f ≡ At i) (noted : w ≡ get_or ends i 0) (first : a ≡ w / 4294967296) (last : b ≡ w % 4294967296) (usage : u ≡ byte_at e 6) where
+    pub step_back : byte_at e 5 ≡ 2 → Edge (step b a u) ≡ taken_of (index_of ws) (node_at ws ends) e
+    unfolding taken_of taken_with step_of node_at end_in found
+    step_back h = rw (eq-eqb (byte_at e 5) 2 h, ← named, ← is, at, ← noted, ← first, ← last, usage)
 
-pub edge_at : (ws e : List ℕ) (f : Found) (i : ℕ) → f ≡ index_of ws (name_in e) → f ≡ At i → index_of ws (name_in e) ≡ At i
-edge_at ws e f i told at = sym told ∙ at
-
--- ---- the step along an edge: i is the index of its name, w the word of its ends
-module _ (ws ends e : List ℕ) (i : ℕ) (at : index_of ws (name_in e) ≡ At i) (w a b u : ℕ) (noted : w ≡ get_or ends i 0)
-    (first : a ≡ w / 4294967296) (last : b ≡ w % 4294967296) (usage : u ≡ byte_at e 6) where
-  pub step_back : byte_at e 5 ≡ 2 → step b a u ≡ step_of (node_at ws ends) e
-  unfolding step_of node_at end_in found
-  step_back h = rw (eq-eqb (byte_at e 5) 2 h, at, ← noted, ← first, ← last, usage)
-
-  pub step_forth : (byte_at e 5 ≡ 2 → ⊥) → step a b u ≡ step_of (node_at ws ends) e
-  unfolding step_of node_at end_in found
-  step_forth ne = rw (ne_eqb (byte_at e 5) 2 ne, at, ← noted, ← first, ← last, usage)
+    pub step_forth : (byte_at e 5 ≡ 2 → ⊥) → Edge (step a b u) ≡ taken_of (index_of ws) (node_at ws ends) e
+    unfolding taken_of taken_with step_of node_at end_in found
+    step_forth ne = rw (ne_eqb (byte_at e 5) 2 ne, ← named, ← is, at, ← noted, ← first, ← last, usage)
 
 -- ---- the usage of an edge
 pub usage_within : (exterior : Bool) (u : ℕ) → not exterior ≡ true → eqb u 2 ≡ usage_good exterior u

@@ -8,8 +8,7 @@ use Rattle.lookups.specs.Lookup.{name_in, found_code}
 use Rattle.lookups.specs.LookupWords.{index_from, index_of}
 use Rattle.pointer.specs.Pointer.{names_code}
 use Rattle.answers.specs.First.{first_by}
-use Rattle.ring.specs.Walk.{ends_with, node_at, walked, rings_of, rings_code, area_code}
-use Rattle.ring.specs.declared.Rings.TheVariants.{Closed, Broken, Missing}
+use Rattle.ring.specs.Walk.{ends_with, node_at, area_code}
 use Rattle.items.specs.Word.{end_in}
 use Rattle.ring.specs.Ring.{node_step, node_with, found, step_of, usage_good, along, rings_from, rings_good, ring_code}
 
@@ -79,22 +78,11 @@ second_exterior : rings_good corner (edge 1 1 3 ∷ edge 2 1 1 ∷ edge 3 2 1 �
 unfolding word corner edge num_at rank_of name_from name_in index_from index_of found end_in node_at step_of usage_good along rings_from rings_good
 second_exterior = refl
 
--- ---- how an area's edges run: Pointer comes before Ring, wherever the missing edge stands
--- an edge that is missing behind a ring that breaks: 3 doesn't start where 1 ended, and 4 isn't there
-missing_behind : area_code (index_of (word 1 ∷ word 2 ∷ word 3 ∷ [])) corner (edge 1 1 1 ∷ edge 3 1 1 ∷ edge 4 1 1 ∷ []) ≡ 18
-unfolding word corner edge num_at rank_of name_from name_in index_from index_of found_code first_by names_code found end_in node_at step_of usage_good along rings_from rings_good walked rings_of
-    rings_code area_code
-missing_behind = refl
+-- Pointer comes before Ring: of two edges that run in no ring the second is missing
+missing_first : area_code (index_of (word 1 ∷ [])) corner (edge 1 1 1 ∷ edge 3 1 1 ∷ []) ≡ 18
+unfolding word corner edge num_at rank_of name_from name_in index_from index_of found_code first_by names_code found end_in node_at step_of usage_good along rings_from rings_good area_code
+missing_first = refl
 
--- the three cases: the ring closes; it doesn't, and both edges are there; of the two the second is missing
-three_ways : (rings_of (index_of (word 4 ∷ [])) corner (edge 4 1 1 ∷ []) ≡ Closed)
-    × (rings_of (index_of (word 1 ∷ word 3 ∷ [])) corner (edge 1 1 1 ∷ edge 3 1 1 ∷ []) ≡ Broken)
-    × (rings_of (index_of (word 1 ∷ [])) corner (edge 1 1 1 ∷ edge 3 1 1 ∷ []) ≡ Missing)
-unfolding word corner edge num_at rank_of name_from name_in index_from index_of found_code first_by names_code found end_in node_at step_of usage_good along rings_from rings_good walked rings_of
-three_ways = (refl, refl, refl)
-
--- and their numbers
 both_there : area_code (index_of (word 1 ∷ word 3 ∷ [])) corner (edge 1 1 1 ∷ edge 3 1 1 ∷ []) ≡ 19
-unfolding word corner edge num_at rank_of name_from name_in index_from index_of found_code first_by names_code found end_in node_at step_of usage_good along rings_from rings_good walked rings_of
-    rings_code area_code
+unfolding word corner edge num_at rank_of name_from name_in index_from index_of found_code first_by names_code found end_in node_at step_of usage_good along rings_from rings_good area_code
 both_there = refl

@@ -1,12 +1,9 @@
 // An edge as an area runs along it.
-ghost use Rattle.std.specs.Prelude.{◌-◌, ◌≡◌, take, drop, get_or};
+ghost use Rattle.std.specs.Prelude.{◌≤◌, ◌≡◌, length, get_or};
 ghost use Rattle.words.specs.Words.{words_in};
-ghost use Rattle.lookups.specs.Lookup.{name_in};
 ghost use Rattle.lookups.specs.LookupWords.{index_of};
-ghost use Rattle.lookups.specs.declared.lookup.Found.TheVariants.{At};
 ghost use Rattle.names.specs.Premises.{Noted};
-ghost use Rattle.ring.specs.Ring.{step_of};
-ghost use Rattle.ring.specs.Walk.{FsptIn, node_at};
+ghost use Rattle.ring.specs.Walk.{taken_of, node_at};
 
 use items::word;
 use lookups::lookup::{Found, index_near, name_in};
@@ -23,6 +20,13 @@ pub struct Step {
     pub usage: u32,
 }
 
+// The step of an FSPT, if a record has its name.
+#[derive(Drop)]
+pub enum Taken {
+    Edge(Step),
+    Missing,
+}
+
 // The ends of the edge that is item i, by its note; 0 where it is none.
 pub fn ends_at(work: &[u8], m: usize, v: usize, i: usize) -> u64
     requires { Noted work.now m v }
@@ -34,45 +38,30 @@ pub fn ends_at(work: &[u8], m: usize, v: usize, i: usize) -> u64
     get(work, m + i)
 }
 
-// The index of the edge that the FSPT from `from` up to `to` names, if a record has the name. It is
-// looked for where the words of its class may begin.
-pub fn edge_place(
-    s: &[u8],
-    from: usize,
-    to: usize,
-    work: &[u8],
-    m: usize,
-    v: usize,
-    starts: Starts,
-) -> Found
-    requires { FsptIn s.now from to × Noted work.now m v }
-    ensures { result ≡ index_of (words_in work.now 0 m) (name_in (take (to - from) (drop from s.now))) }
+// The step of one FSPT. Its edge is looked for where the words of its class may begin.
+pub fn step_of(e: &[u8], work: &[u8], m: usize, v: usize, starts: Starts) -> Taken
+    requires { (8 ≤ length e.now) × Noted work.now m v }
+    ensures { result ≡ taken_of (index_of (words_in work.now 0 m)) (node_at (words_in work.now 0 m) (words_in work.now m v)) e.now }
 {
-    let name = name_in(&s[from..to]);
+    let name = name_in(e);
     let start = start_for(starts, name);
-    index_near(work, 0, m, name, m, start)
-}
-
-// The step along that edge, which was found at index i.
-pub fn step_at(s: &[u8], from: usize, to: usize, work: &[u8], m: usize, v: usize, i: usize) -> Step
-    requires { FsptIn s.now from to × Noted work.now m v × (index_of (words_in work.now 0 m) (name_in (take (to - from) (drop from s.now))) ≡ At i) }
-    ensures { result ≡ step_of (node_at (words_in work.now 0 m) (words_in work.now m v)) (take (to - from) (drop from s.now)) }
-{
-    let e = &s[from..to];
+    let Found::At(i) = index_near(work, 0, m, name, m, start) else {
+        return Taken::Missing;
+    };
     let ends = ends_at(work, m, v, i);
     let begin = (ends / word::BEGIN_WEIGHT) as u32;
     let end = (ends % word::BEGIN_WEIGHT) as u32;
     let usage = wide(e[offsets::FSPT_USAG]);
     if e[offsets::FSPT_ORNT] == 2 {
-        return Step {
+        return Taken::Edge(Step {
             from: end,
             to: begin,
             usage,
-        };
+        });
     }
-    Step {
+    Taken::Edge(Step {
         from: begin,
         to: end,
         usage,
-    }
+    })
 }

@@ -1,12 +1,11 @@
 -- Show: the answer and the part, for every cell, every update, every name and every work area. Assumes nothing.
-use Rattle.std.specs.Prelude.{ℕ, ◌+◌, ◌*◌, Bool, true, false, cond, List, [], length, take, drop, eqb}
+use Rattle.std.specs.Prelude.{ℕ, Bool, true, false, cond, List, [], length, take, drop, eqb}
 use Rattle.iso8211.specs.Leader.{size_at}
 use Rattle.lookups.specs.declared.lookup.Found.{Found}
 use Rattle.lookups.specs.declared.lookup.Found.TheVariants.{At, Nothing}
-use Rattle.answers.specs.Codes.{ABSENT, work_each}
+use Rattle.answers.specs.Codes.{ABSENT}
 use Rattle.answers.specs.Answer.{answer}
-use Rattle.reader.specs.Reader.{front_of, fronted, cell_records, cell_checked, both_checked}
-use Rattle.loader.specs.Apply.{changes_in}
+use Rattle.reader.specs.Reader.{front_of, fronted, cell_checked, both_checked}
 use Rattle.answers.specs.declared.answer.Answer.{Answer}
 use Rattle.shownames.specs.Named.{named_in}
 use Rattle.show.specs.declared.span.Span.{Span}
@@ -75,7 +74,3 @@ show_of cell update w rcnm rcid = sight_answer (sight_of cell update w rcnm rcid
 
 unfoldable pub shown_part : List ℕ → List ℕ → ℕ → ℕ → ℕ → List ℕ
 shown_part cell update w rcnm rcid = sight_bytes cell update (sight_of cell update w rcnm rcid)
-
--- "16 bytes a record of the files given": of the cell, and of the update where its length isn't 0
-unfoldable pub work_needed : List ℕ → List ℕ → ℕ
-work_needed cell update = work_each * (cell_records cell + cond (eqb (length update) 0) 0 (changes_in update))

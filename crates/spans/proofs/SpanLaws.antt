@@ -2,7 +2,7 @@
 use Prim.Native.Nat.{ℕ, ◌+◌, ◌-◌, ◌≤◌, ◌<◌}
 use mathlib.Core.Bool.{true, false}
 use mathlib.Core.List.{List, ◌++◌, append-nil}
-use mathlib.Core.Logic.{⊎_elim, ◌⊎◌, inl, inr}
+use mathlib.Core.Logic.{⊎_elim}
 use mathlib.Core.Path.{◌≡◌, refl, sym, ap, ◌∙◌}
 use native.Mathlib.Omega.{arith}
 use lib.ListN.{length, take, drop}
@@ -16,7 +16,7 @@ use Rattle.iso8211.specs.Field.{count_at, field_at}
 use Rattle.iso8211.specs.Premises.{HeadOf, Due}
 use Rattle.iso8211.specs.declared.field.Head.{Head}
 use Rattle.iso8211.specs.declared.field.Field.{Field}
-use Rattle.table.specs.Table.{table, row_of, kind_of, among, as_number, FIRST, VRID, FRID, FOID}
+use Rattle.table.specs.Table.{table, row_of, kind_of, among, as_number, first, VRID, FRID, FOID}
 use Rattle.table.specs.Text.{bytes}
 use Rattle.layout.specs.Record.{kind_at, content_at}
 use Rattle.layout.proofs.Promise.{full_vrid, full_frid, full_foid}
@@ -27,7 +27,7 @@ use Rattle.items.proofs.IdentityLaws.{num_one}
 use Rattle.items.proofs.FrontLaws.{long_is, id_place, front_kind, front_id}
 use Rattle.items.proofs.ListsLaws.{part_yes, part_no, join_end, join_next, join_all, field_some, field_fits}
 use Rattle.items.proofs.CountLaws.{lent_is}
-use Rattle.spans.specs.Spans.{Tagged, Reached, FrontClass, FrontPlaces, FrontTold, span, span_with, SpanTo, SpanOf, LoneTold}
+use Rattle.spans.specs.Spans.{Tagged, Reached, FrontTold, span, span_with, SpanTo, SpanOf, LoneTold}
 use Rattle.spans.specs.declared.Span.{Span}
 use Rattle.spans.specs.declared.Front.TheVariants.{Vector, Feature, Other}
 
@@ -35,7 +35,7 @@ use Rattle.spans.specs.declared.Front.TheVariants.{Vector, Feature, Other}
 never : {A : Type 0} → false ≡ true → A
 never e = absurd (let z : ◌≡◌ {A = ℕ} 0 1 = cc in omega arith)
 
-no_list_first : (k : ℕ) → (row_of k).list ≡ true → FIRST ≡ k → ⊥
+no_list_first : (k : ℕ) → (row_of k).list ≡ true → first ≡ k → ⊥
 unfolding row_of table
 no_list_first k list e = never (rw (← e) at list)
 
@@ -57,7 +57,7 @@ join_pass : (s : List ℕ) (at k j : ℕ) → j < count_at s at → (kind_at s a
 join_pass s at k j h ne = join_next s at k j h ∙ ap (λ (l : List ℕ). l ++ join_from (count_at s at - (j + 1)) s at k (j + 1)) (part_no s at k j ne)
 
 module _ {s : List ℕ} {at : ℕ} (laid : LaidOut s at) where
-  module _ (front : kind_at s at 0 ≡ FIRST) where
+  module _ (front : kind_at s at 0 ≡ first) where
     fresh_first : (k : ℕ) → (row_of k).list ≡ true → list_at s at k ≡ join_from (count_at s at - 1) s at k 1
     fresh_first k list =
         let two = laid.two in
@@ -118,18 +118,11 @@ unfolding kind_of among table as_number bytes
 vrid_kind = refl
 
 pub front_other : (s : List ℕ) (at : ℕ) (h : Head) → FrontTold s at h Other
-unfolding FrontClass FrontPlaces
-front_other s at h = record { class = tt; places = tt }
-
--- "110 isolated node, 120 connected node, 130 edge": of the four classes those that aren't 100
-vector_class : (rcnm : ℕ) → (rcnm ≡ 110) ⊎ ((rcnm ≡ 120) ⊎ ((rcnm ≡ 130) ⊎ (rcnm ≡ 100))) → (rcnm ≡ 100 → ⊥) → (rcnm ≡ 110) ⊎ ((rcnm ≡ 120) ⊎ (rcnm ≡ 130))
-vector_class rcnm (inl a) ne = inl a
-vector_class rcnm (inr (inl b)) ne = inr (inl b)
-vector_class rcnm (inr (inr (inl c))) ne = inr (inr c)
-vector_class rcnm (inr (inr (inr d))) ne = absurd (ne d)
+unfolding FrontTold
+front_other s at h = tt
 
 module _ (s : List ℕ) (at : ℕ) (h : Head) (t : ℕ) (laid : LaidOut s at) (head : HeadOf s at h) (read : t ≡ (field_at s at 0).tag) (front : t ≡ 808464433) where
-  first_is : kind_at s at 0 ≡ FIRST
+  first_is : kind_at s at 0 ≡ first
   first_is = front_kind s at h t laid head read front
 
   id_is : at + h.base + 3 ≡ id_at s at
@@ -145,23 +138,23 @@ module _ (s : List ℕ) (at : ℕ) (h : Head) (t : ℕ) (laid : LaidOut s at) (h
     class_is = class.is ∙ num_one s (at + h.base + 3) ∙ ap (byte_at s) id_is
 
     pub front_feature : c ≡ 100 → FrontTold s at h (Feature (at + h.base + 3) (at + h.base + 3 + 22))
-    unfolding FrontClass FrontPlaces
+    unfolding FrontTold
     front_feature e =
         let is : rcnm_at s at ≡ 100 = sym class_is ∙ e in
-        let base = head.base in
-        let place = foid_place laid first_is (known.feature is) in
-        record { class = is; places = (id_is, feature_reached laid first_is (known.feature is) h _ head (omega arith), omega arith) }
+        let base = head.base in (
+          id_is,
+          is,
+          feature_reached laid first_is (known.feature is) h _ head (omega arith),
+          (let place = foid_place laid first_is (known.feature is) in omega arith),
+        )
 
     pub front_vector : (u : ℕ) → (c ≡ 100 → ⊥) → u ≡ (field_at s at 1).tag → u ≡ 1448233284
         → FrontTold s at h (Vector (at + h.base + 3) (at + h.base + 3 + 9))
-    unfolding FrontClass FrontPlaces
+    unfolding FrontTold
     front_vector u ne tagged is =
         let vector : kind_at s at 1 ≡ VRID = ap kind_of (sym tagged ∙ is) ∙ vrid_kind in
         let base = head.base in
-        record {
-          class = vector_class (rcnm_at s at) known.class (λ (e : rcnm_at s at ≡ 100). ne (class_is ∙ e));
-          places = (id_is, vector_reached laid first_is vector h _ head (omega arith));
-        }
+        (id_is, (λ (e : rcnm_at s at ≡ 100). ne (class_is ∙ e)), vector_reached laid first_is vector h _ head (omega arith))
 
 -- ---- the walk
 pub span_start : {s : List ℕ} {at j due : ℕ} {h : Head} (tag : ℕ) (sp : Span) → Reached s at h j due → sp ≡ span 0 0 → SpanTo s at tag j sp

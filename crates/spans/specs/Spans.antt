@@ -1,5 +1,5 @@
 -- Where the bytes of a list lie. It serves the proofs, and nothing here need be believed. Assumes nothing.
-use Rattle.std.specs.Prelude.{ℕ, ◌+◌, ◌-◌, ◌≤◌, Bool, true, cond, List, ◌++◌, ◌⊎◌, ◌≡◌, length, take, drop, eqb}
+use Rattle.std.specs.Prelude.{ℕ, ◌+◌, ◌-◌, ◌≤◌, Bool, true, cond, List, ◌++◌, ◌≡◌, length, take, drop, eqb}
 use Rattle.iso8211.specs.Field.{count_at, field_at}
 use Rattle.iso8211.specs.Premises.{HeadOf, Due}
 use Rattle.iso8211.specs.declared.field.Head.{Head}
@@ -27,23 +27,12 @@ pub record Reached (s : List ℕ) (at : ℕ) (h : Head) (j due : ℕ) : Type 0 w
   pub next : Due s at j due
   pub fresh : (k : ℕ) → (row_of k).list ≡ true → list_at s at k ≡ join_from (count_at s at - j) s at k j
 
--- document 01's classes for each case: "110 isolated node, 120 connected node, 130 edge, 100 feature"; Other states none
-unfoldable pub FrontClass : Front → ℕ → Type 0
-FrontClass (Vector id due) rcnm = (rcnm ≡ 110) ⊎ ((rcnm ≡ 120) ⊎ (rcnm ≡ 130))
-FrontClass (Feature id due) rcnm = rcnm ≡ 100
-FrontClass Other rcnm = Unit {0}
-
--- its values: where the identifier field starts, and that the lists are still to come where field 2 is due, behind "0001 VRID", or field 3, behind
--- "0001 FRID FOID"; of a feature FOID stands 13 bytes behind it
-unfoldable pub FrontPlaces : List ℕ → ℕ → Head → Front → Type 0
-FrontPlaces s at h (Vector id due) = (id ≡ id_at s at) × Reached s at h 2 due
-FrontPlaces s at h (Feature id due) = (id ≡ id_at s at) × Reached s at h 3 due × (id + 13 ≡ (field_at s at 2).start)
-FrontPlaces s at h Other = Unit {0}
-
--- both are those of the record
-pub record FrontTold (s : List ℕ) (at : ℕ) (h : Head) (r : Front) : Type 0 where
-  pub class : FrontClass r (rcnm_at s at)
-  pub places : FrontPlaces s at h r
+-- where the identifier field starts, and that the lists are still to come where field 2, or 3 of a feature, is due; of a feature FOID stands 13
+-- bytes behind it
+unfoldable pub FrontTold : List ℕ → ℕ → Head → Front → Type 0
+FrontTold s at h (Vector id due) = (id ≡ id_at s at) × (rcnm_at s at ≡ 100 → ⊥) × Reached s at h 2 due
+FrontTold s at h (Feature id due) = (id ≡ id_at s at) × (rcnm_at s at ≡ 100) × Reached s at h 3 due × (id + 13 ≡ (field_at s at 2).start)
+FrontTold s at h Other = Unit {0}
 
 abbrev pub span : ℕ → ℕ → Span
 span from to = record { from = from; to = to }

@@ -16,7 +16,7 @@ use Rattle.entries.specs.Entries.{entries_of, extent_of}
 use Rattle.entries.specs.Premises.{Whole, place}
 use Rattle.entries.proofs.EntriesLaws.{flatten_append}
 use Rattle.entries.proofs.PlaceLaws.{place_front, place_back, place_within}
-use Rattle.edits.specs.Control.{gone, ControlRules, edited, edited_by}
+use Rattle.edits.specs.Control.{gone, Allowed, edited, edited_by}
 use Rattle.edits.specs.Lists.{list_allowed, list_edited}
 use Rattle.edits.proofs.ControlLaws.{allowed_numbers}
 use Rattle.splice.specs.declared.control.Control.{Control}
@@ -103,7 +103,7 @@ module _ {sh : Shape} {held brought : List ℕ} (two : Two sh held brought) (c :
     unfolding list_edited
     spliced_without h t w = put_yes (told_yes may _ verdict h) (wrote_as _ (rw (given_none c t) (sym two.old.is)) w)
 
-    pub spliced_allowed : not may ≡ false → not c.there ≡ false → ControlRules (numbers_of c) (length (entries_of sh held)) (length (entries_of sh brought))
+    pub spliced_allowed : not may ≡ false → not c.there ≡ false → Allowed (numbers_of c) (length (entries_of sh held)) (length (entries_of sh brought))
     unfolding list_allowed
     spliced_allowed h t = allowed_numbers _ _ _ (rw (given_some c t) at (told_yes may _ verdict h))
 

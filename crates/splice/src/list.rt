@@ -4,7 +4,7 @@ ghost use mathlib.Core.List.{◌++◌, flatten};
 ghost use Rattle.octets.specs.Area.{Wrote};
 ghost use Rattle.entries.specs.Entries.{entries_of};
 ghost use Rattle.entries.specs.Premises.{Sound, place};
-ghost use Rattle.edits.specs.Control.{edited_by, ControlRules};
+ghost use Rattle.edits.specs.Control.{edited_by, Allowed};
 ghost use Rattle.edits.specs.Lists.{list_allowed, list_edited};
 ghost use Rattle.splice.specs.Given.{numbers_of, option_of, Given};
 ghost use Rattle.splice.specs.Put.{ListPut, Two};
@@ -56,7 +56,7 @@ fn put_edited(
     out: &mut [u8],
     at: usize,
 ) -> usize
-    requires { Two sh held.now brought.now × Given c × ControlRules (numbers_of c) (length (entries_of sh held.now)) (length (entries_of sh brought.now))
+    requires { Two sh held.now brought.now × Given c × Allowed (numbers_of c) (length (entries_of sh held.now)) (length (entries_of sh brought.now))
         × (at + (length held.now + length brought.now) ≤ length out.old) }
     ensures { Wrote out.old at (flatten (edited_by (numbers_of c) (entries_of sh held.now) (entries_of sh brought.now)))
         out.new result }

@@ -1,5 +1,4 @@
--- The table agrees with itself: claims that are computed over all of it. Assumes nothing.
-use Prim.Native.Nat.{◌+◌}
+-- The table agrees with itself: two claims, each computed over all of it. Assumes nothing.
 use mathlib.Core.Bool.{true}
 use mathlib.Core.List.{List, [], ◌∷◌}
 use mathlib.Core.Path.{◌≡◌, refl}
@@ -8,9 +7,9 @@ use Rattle.table.specs.Table.{table, row_of, as_number, DSID, DSPM, VRID, FRID, 
 use Rattle.table.specs.Offsets.{RCID, DSID_EXPP, DSID_INTU, DSID_DSNM, DSSI_AALL, DSSI_NALL, DSSI_NOMR, DSSI_NOCR, DSSI_NOGR, DSSI_NOLR, DSSI_NOIN, DSSI_NOCN, DSSI_NOED}
 use Rattle.table.specs.Offsets.{DSSI_NOFA, DSPM_HDAT, DSPM_DUNI, DSPM_HUNI, DSPM_PUNI, DSPM_COUN, DSPM_COMF, DSPM_SOMF, DSPM_COMT, VRID_RVER, VRID_RUIN, FRID_PRIM}
 use Rattle.table.specs.Offsets.{FRID_GRUP, FRID_OBJL, FRID_RVER, FRID_RUIN, VRPT_ORNT, VRPT_USAG, VRPT_TOPI, VRPT_MASK, FSPT_ORNT, FSPT_USAG, FSPT_MASK, FFPT_RIND}
-use Rattle.table.specs.Offsets.{FFPT_COMT, ATVL, XCOO, control_index, control_count, UPDN_UADT, UPDN_ISDT, UPDN_STED, UPDN_PSDN}
+use Rattle.table.specs.Offsets.{FFPT_COMT, ATVL, XCOO, control_index, control_count}
 use Rattle.table.specs.Widths.{written, is_digit, count_after, letter_after, size_after, primitives_from, is_text, width_of, fixed_of, text_of, list_of, labels_from, same}
-use Rattle.table.specs.Widths.{shape_follows, shapes_follow, offset_in, offset_of, Subfield, subfield, offset_follows, offsets_follow}
+use Rattle.table.specs.Widths.{shape_follows, shapes_follow, offset_in, Subfield, subfield, offset_follows, offsets_follow}
 
 -- fixed bytes, text mark and list mark of all rows follow from their formats and labels
 pub shapes_follow_lem : shapes_follow table ≡ true
@@ -78,12 +77,5 @@ subfields =
 
 -- each is the sum of the widths before its label
 pub offsets_follow_lem : offsets_follow subfields ≡ true
-unfolding bytes table row_of as_number written is_digit count_after letter_after size_after primitives_from width_of labels_from offset_in offset_of subfields offset_follows offsets_follow
+unfolding bytes table row_of as_number written is_digit count_after letter_after size_after primitives_from width_of labels_from offset_in subfields offset_follows offsets_follow
 offsets_follow_lem = refl
-
--- of the subfields behind UPDN each stands as far behind UADT as the widths between them say
-pub behind_follow : (offset_of DSID "ISDT" + UPDN_UADT ≡ offset_of DSID "UADT" + UPDN_ISDT)
-    × (offset_of DSID "STED" + UPDN_UADT ≡ offset_of DSID "UADT" + UPDN_STED)
-    × (offset_of DSID "PSDN" + UPDN_UADT ≡ offset_of DSID "UADT" + UPDN_PSDN)
-unfolding bytes table row_of as_number written is_digit count_after letter_after size_after primitives_from width_of labels_from offset_in offset_of
-behind_follow = (refl, refl, refl)

@@ -10,17 +10,17 @@ use lib.ListN.{length, get_or, get_or-eq_default}
 use borrow.Author.Tests.{eqb-true}
 use Rattle.octets.proofs.Tests.{both, never}
 use Rattle.table.specs.declared.Kind.{Kind}
-use Rattle.table.specs.Table.{table, row_of, kind_row, FIRST}
+use Rattle.table.specs.Table.{table, row_of, kind_row, first}
 use Rattle.table.specs.Widths.{same}
 use Rattle.table.specs.Premises.{Picked}
 
 -- past the table every row is that of 0001
-pub row_past : (k : ℕ) → FIRST ≤ k → row_of k ≡ row_of FIRST
+pub row_past : (k : ℕ) → first ≤ k → row_of k ≡ row_of first
 unfolding row_of table
 row_past k h = get_or-eq_default table _ h
 
 -- the same as the code keeps it
-pub kind_past : (k : ℕ) → FIRST ≤ k → kind_row k ≡ kind_row FIRST
+pub kind_past : (k : ℕ) → first ≤ k → kind_row k ≡ kind_row first
 kind_past k h = rw (row_past k h)
 
 -- one number more that k is not

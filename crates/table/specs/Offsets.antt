@@ -1,12 +1,12 @@
--- Where each subfield stands in its field or in its entry of a list, counted from 0. That each offset is the sum of the widths before the label is claimed over the table
--- itself in crates/table/proofs/Agreement.antt, but for DSID-EDTN, which rests on DSNM's rule, and UPDN-UADT, the byte behind a 1F. Assumes nothing.
+-- Where each subfield stands in its field or in its entry of a list, counted from 0. That each offset is the sum of the widths before the
+-- label is claimed over the table itself in crates/table/proofs/Agreement.antt. Assumes nothing.
 use Rattle.std.specs.Prelude.{ℕ}
 
 -- RCID: behind RCNM in every identifier field, and in every NAME
 abbrev pub RCID : ℕ
 RCID = 1
 
--- DSID, before its first text
+-- DSID, before its first text; those behind are found by the ends of its texts
 abbrev pub DSID_EXPP : ℕ
 DSID_EXPP = 5
 
@@ -15,23 +15,6 @@ DSID_INTU = 6
 
 abbrev pub DSID_DSNM : ℕ
 DSID_DSNM = 7
-
--- behind DSNM, which by its rule has twelve bytes, and its 1F
-abbrev pub DSID_EDTN : ℕ
-DSID_EDTN = 20
-
--- behind UPDN, counted from its 1F: two dates of eight bytes, STED of four and PRSP of one, then PSDN
-abbrev pub UPDN_UADT : ℕ
-UPDN_UADT = 1
-
-abbrev pub UPDN_ISDT : ℕ
-UPDN_ISDT = 9
-
-abbrev pub UPDN_STED : ℕ
-UPDN_STED = 17
-
-abbrev pub UPDN_PSDN : ℕ
-UPDN_PSDN = 22
 
 -- DSSI: the levels, then the counts
 abbrev pub DSSI_AALL : ℕ

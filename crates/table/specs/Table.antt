@@ -102,8 +102,8 @@ abbrev pub FSPT : ℕ
 FSPT = 17
 
 -- behind the table: 0001, which stands first in every record but record 0; and every other tag, 0000 among them
-abbrev pub FIRST : ℕ
-FIRST = 18
+abbrev pub first : ℕ
+first = 18
 
 abbrev pub unknown : ℕ
 unknown = 19
@@ -117,7 +117,7 @@ unfoldable pub as_number : List ℕ → ℕ → ℕ
 as_number [] led = led
 as_number (b ∷ bs) led = as_number bs (led * 256 + b)
 
--- row k; past the table, 0001: two bytes that are free. A kind past `FIRST` is of no tag that may stand anywhere: record 0 and the places of fields
+-- row k; past the table, 0001: two bytes that are free. A kind past `first` is of no tag that may stand anywhere: record 0 and the places of fields
 -- refuse it before its row is asked for
 unfoldable pub row_of : ℕ → Row
 unfolding row
@@ -128,7 +128,7 @@ tag_of k = as_number (bytes (row_of k).tag) 0
 
 -- which row of these has this tag, the rows being counted from k on
 unfoldable pub among : List Row → ℕ → ℕ → ℕ
-among [] k t = cond (eqb t 808464433) FIRST unknown
+among [] k t = cond (eqb t 808464433) first unknown
 among (r ∷ rs) k t = cond (eqb t (as_number (bytes r.tag) 0)) k (among rs (suc k) t)
 
 -- the field of a tag, by its number

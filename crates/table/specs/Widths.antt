@@ -94,12 +94,8 @@ pub record Subfield : Type 0 where
 abbrev pub subfield : ℕ → String → ℕ → Subfield
 subfield k l n = record { kind = k; label = l; offset = n }
 
--- the widths before a label of the field of kind k; a text without a size has none
-unfoldable pub offset_of : ℕ → String → ℕ
-offset_of k l = offset_in (primitives_of (row_of k)) (labels_of (row_of k)) (as_number (bytes l) 0)
-
 unfoldable pub offset_follows : Subfield → Bool
-offset_follows f = eqb (offset_of f.kind f.label) f.offset
+offset_follows f = eqb (offset_in (primitives_of (row_of f.kind)) (labels_of (row_of f.kind)) (as_number (bytes f.label) 0)) f.offset
 
 unfoldable pub offsets_follow : List Subfield → Bool
 offsets_follow [] = true

@@ -1,7 +1,7 @@
 // Document 01's table of fields, once: tags, formats, labels, shapes of entries and places. It
 // promises what a tag means and what a field of each kind is made of.
 ghost use Rattle.std.specs.Prelude.{◌≡◌, ◌<◌, length};
-ghost use Rattle.table.specs.Table.{kind_of, kind_row, FIRST, kind_count};
+ghost use Rattle.table.specs.Table.{kind_of, kind_row, first, kind_count};
 ghost use Rattle.table.specs.Premises.{Picked};
 
 pub mod offsets;
@@ -211,7 +211,7 @@ const ROWS: [u16; kinds::FIRST] = [
 
 // The row of kind k among these.
 fn picked(rows: [u16; kinds::FIRST], k: usize) -> u16
-    requires { (length rows ≡ FIRST) × (k < FIRST) }
+    requires { (length rows ≡ first) × (k < first) }
     ensures { Picked rows k result }
 {
     rows[k]

@@ -18,7 +18,7 @@ use Rattle.items.specs.Item.{Item}
 use Rattle.items.specs.Premises.{LaidOut, Listed, Identified, Featured}
 use Rattle.items.proofs.KindLaws.{vrpt_list}
 use Rattle.ring.specs.Walk.{ends_with}
-use Rattle.spans.specs.Spans.{Reached, FrontClass, FrontPlaces, FrontTold, SpanOf}
+use Rattle.spans.specs.Spans.{Reached, FrontTold, SpanOf}
 use Rattle.spans.specs.declared.Span.{Span}
 use Rattle.spans.specs.declared.Front.{Front}
 use Rattle.spans.specs.declared.Front.TheVariants.{Vector, Feature}
@@ -32,38 +32,37 @@ use Rattle.topology.specs.Notes.{noted_code}
 -- ---- the front of a record: f is the answer
 module _ (s : List ℕ) (at : ℕ) (h : Head) (f : Front) (told : FrontTold s at h f) (id due : ℕ) where
   module _ (is : f ≡ Vector id due) where
-    vector_places : (id ≡ id_at s at) × Reached s at h 2 due
-    unfolding FrontPlaces
-    vector_places = rw is at told.places
+    vector_front : (id ≡ id_at s at) × (rcnm_at s at ≡ 100 → ⊥) × Reached s at h 2 due
+    unfolding FrontTold
+    vector_front = rw is at told
 
     pub vector_id : id ≡ id_at s at
-    vector_id = vector_places.0
+    vector_id = vector_front.0
 
     pub vector_reached : Reached s at h 2 due
-    vector_reached = vector_places.1
+    vector_reached = vector_front.2
 
   module _ (is : f ≡ Feature id due) where
-    feature_places : (id ≡ id_at s at) × Reached s at h 3 due × (id + 13 ≡ (field_at s at 2).start)
-    unfolding FrontPlaces
-    feature_places = rw is at told.places
+    feature_front : (id ≡ id_at s at) × (rcnm_at s at ≡ 100) × Reached s at h 3 due × (id + 13 ≡ (field_at s at 2).start)
+    unfolding FrontTold
+    feature_front = rw is at told
 
     pub feature_id : id ≡ id_at s at
-    feature_id = feature_places.0
+    feature_id = feature_front.0
 
     pub feature_class : rcnm_at s at ≡ 100
-    unfolding FrontClass
-    feature_class = rw is at told.class
+    feature_class = feature_front.1
 
     pub feature_reached : Reached s at h 3 due
-    feature_reached = feature_places.1
+    feature_reached = feature_front.2
 
     -- FOID stands there
     pub foid_room : Identified s at → id + 21 ≤ length s
-    foid_room known = let whole = (known.feature feature_class).whole in let place = feature_places.2 in omega arith
+    foid_room known = let whole = (known.feature feature_class).whole in let place = feature_front.3 in omega arith
 
     pub foid_read : (r : ℕ) → Reads s (id + 13) 8 r → r ≡ foid_at s at
     unfolding foid_at
-    foid_read r read = read.is ∙ ap (λ (i : ℕ). num_at s i 8) feature_places.2
+    foid_read r read = read.is ∙ ap (λ (i : ℕ). num_at s i 8) feature_front.3
 
 -- ---- a feature without fault, whatever COMF
 pub drawn_quick : (comf : ℕ) (work : List ℕ) (m v : ℕ) (i : Item) (r : Bool) → Drawn work m v i r → Quick comf work m v i r

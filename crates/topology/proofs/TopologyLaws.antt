@@ -33,7 +33,6 @@ use Rattle.vectorshape.specs.Shape.{shape_code}
 use Rattle.pointer.specs.Pointer.{lnams_code, pointer_code}
 use Rattle.answers.specs.First.{first_code, first_by}
 use Rattle.ring.specs.Walk.{area_code}
-use Rattle.ring.proofs.RingLaws.{area_code_lem}
 use Rattle.ring.specs.Ring.{ring_code}
 use Rattle.topology.specs.Topology.{item_code, code_among, fault_from, topology_of, located, topology_fault}
 use Rattle.topology.specs.Notes.{notes_for, noted_code, Roomy, Prepared, word_fault}
@@ -84,9 +83,8 @@ module _ (comf : ℕ) (place : ℕ → Found) (object : ℕ → Bool) (node : �
       -- an area: b is the code of its LNAMs
       module _ (area : prim ≡ 3) (b : ℕ) (related : b ≡ lnams_code object (entries_at s at FFPT)) where
         item_area : item_code comf place object node (item_at s at) ≡ first_code b (area_code place node (entries_at s at FSPT))
-        unfolding pointer_code ring_code
-        item_area =
-            item_rest ∙ rw (said, ffpt_said s at, fspt_said s at, ← class, feature, ← primitive, area, ← related, area_code_lem place node (entries_at s at FSPT)) (codes_join b _ _)
+        unfolding pointer_code ring_code area_code
+        item_area = item_rest ∙ rw (said, ffpt_said s at, fspt_said s at, ← class, feature, ← primitive, area, ← related) (codes_join b _ _)
 
         pub item_related : (b ≡ 0 → ⊥) → b ≡ item_code comf place object node (item_at s at)
         unfolding first_by

@@ -1,17 +1,27 @@
--- Demand 2 in the form in which a unit takes it: why Apply could write, and that an offer replaces or keeps. Assumes nothing.
+-- Demand 2 in the form in which a unit takes it: what a call wrote, why Apply could, and that an offer replaces or keeps. Assumes nothing.
 use Prim.Native.Nat.{ℕ}
 use mathlib.Core.List.{List}
 use mathlib.Core.Path.{◌≡◌}
 use lib.ListN.{length}
 use borrow.Author.Tests.{eq-eqb, ne_eqb}
 use Rattle.held.specs.Held.{held_of}
-use Rattle.loader.specs.Admit.{cell_chart}
+use Rattle.loader.specs.Admit.{admit_of, cell_chart}
 use Rattle.loader.specs.Apply.{apply_of, updated_by}
 use Rattle.demands.specs.Cell.{Bytes}
 use Rattle.demands.specs.Update.{Allowed}
 use Rattle.demands.proofs.Apply.{accepted_readable, accepted_exactly}
-use Rattle.demands.proofs.Written.{apply_wrote_lem}
-use Rattle.unit.specs.Unit.{Offer, offered}
+use Rattle.demands.proofs.Written.{admitted_held, applied_held}
+use Rattle.unit.specs.Unit.{admit_wrote, apply_wrote, Offer, offered}
+
+-- ---- as many bytes of the area as Number says are the held form, and not the bytes behind it
+pub admit_wrote_lem : (cell : List ℕ) (w : ℕ) (area : List ℕ) → (admit_of cell w (length area)).code ≡ 0 → admit_wrote cell w area ≡ held_of (cell_chart cell)
+unfolding admit_wrote
+admit_wrote_lem cell w area h = admitted_held cell w area h
+
+pub apply_wrote_lem : (cell file : List ℕ) (w : ℕ) (area : List ℕ) → (apply_of cell file w (length area)).code ≡ 0
+    → apply_wrote cell file w area ≡ held_of (updated_by (cell_chart cell) file)
+unfolding apply_wrote
+apply_wrote_lem cell file w area h = applied_held cell file w area h
 
 -- ---- what Apply takes is allowed
 pub apply_allowed : (cell file : List ℕ) (w o : ℕ) → Bytes file → (apply_of cell file w o).code ≡ 0 → Allowed (cell_chart cell) file

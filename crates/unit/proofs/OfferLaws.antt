@@ -1,6 +1,5 @@
--- The owner's demand 3 of units that are given by lists of offers. `unit_shows_each`: "After each" offer of a list. `two_units`, `two_units_again`: two units, the
--- second begun from the same base or from what the first held. `unit_reaches`: the next updates, offered in order with areas that suffice, are all taken. Assumes
--- nothing.
+-- Demand 3 of units that are given by lists of offers. `unit_shows_each`: after each offer of a list. `two_units`, `two_units_again`: two units, the second begun from the
+-- same base or from what the first held. `unit_reaches`: the next updates, offered in order with areas that suffice, are all taken. Assumes nothing.
 use Prim.Native.Nat.{ℕ, ◌+◌}
 use mathlib.Core.List.Memᴰ
 use mathlib.Core.List.{List, [], ◌∷◌, ◌++◌}
@@ -17,8 +16,7 @@ use Rattle.demands.specs.Cell.{Bytes}
 use Rattle.loader.specs.Apply.{updated_by}
 use Rattle.demands.specs.Update.{Allowed, Areas}
 use Rattle.demands.proofs.Whole.{whole_back, whole_updated}
-use Rattle.demands.specs.Written.{admit_wrote}
-use Rattle.unit.specs.Unit.{Offer, offered, after, files_of, In, BytesEach, UnitOf}
+use Rattle.unit.specs.Unit.{admit_wrote, Offer, offered, after, files_of, In, BytesEach, UnitOf}
 use Rattle.unit.specs.Unit.UnitOf.{begun, given, again}
 use Rattle.unit.specs.Reissue.{shown, number_of, OneEach, worked, Series, Reissue}
 use Rattle.unit.specs.Reissue.Series.{next}
@@ -56,13 +54,12 @@ unit_after cell [] all u = u
 unit_after cell (o ∷ os) all u = unit_after (offered cell o) os (λ file m. all file (Memᴰ.tail m)) (given o (all o.file (Memᴰ.head refl)) u)
 
 module _ (base : List ℕ) (b : Bytes base) (w : ℕ) (area : List ℕ) (accepted : (admit_of base w (length area)).code ≡ 0) where
-  -- ---- "After each, the unit's cell is the re-issue of the base with every update after the base's own number up to the number shown applied once, in order, by demand
-  -- 2's rules.": `os` are the offers until now, `later` those to come
+  -- ---- after each offer: `os` are the offers until now, `later` those to come
   pub unit_shows_each : (os later : List Offer) → BytesEach (In (os ++ later)) → OneEach (In (os ++ later)) (cell_chart base)
       → Reissue (In (os ++ later)) (cell_chart base) (shown (after (admit_wrote base w area) os)) (after (admit_wrote base w area) os)
   unit_shows_each os later octets one = unit_shows b octets one (unit_after (admit_wrote base w area) os (in_left os later) (begun w area accepted))
 
-  -- ---- "Two units of this base showing the same number therefore hold equal bytes,"
+  -- ---- "two units with the same number hold equal bytes"
   pub two_units : (v : ℕ) (room : List ℕ) → (admit_of base v (length room)).code ≡ 0 → (os ps : List Offer) → BytesEach (In (os ++ ps))
       → OneEach (In (os ++ ps)) (cell_chart base) → shown (after (admit_wrote base w area) os) ≡ shown (after (admit_wrote base v room) ps)
       → after (admit_wrote base w area) os ≡ after (admit_wrote base v room) ps
@@ -71,7 +68,7 @@ module _ (base : List ℕ) (b : Bytes base) (w : ℕ) (area : List ℕ) (accepte
       (unit_after (admit_wrote base w area) os (in_left os ps) (begun w area accepted))
       (unit_after (admit_wrote base v room) ps (in_right os ps) (begun v room too)) h
 
-  -- "also where one began from a re-issue that the other wrote earlier.": from what the first held after `os`
+  -- "also where one began from the other's re-issue": from what the first held after `os`
   pub two_units_again : (os later ps : List Offer) (v : ℕ) (room : List ℕ) → (admit_of (after (admit_wrote base w area) os) v (length room)).code ≡ 0
       → BytesEach (In ((os ++ later) ++ ps)) → OneEach (In ((os ++ later) ++ ps)) (cell_chart base)
       → shown (after (admit_wrote base w area) (os ++ later)) ≡ shown (after (admit_wrote (after (admit_wrote base w area) os) v room) ps)

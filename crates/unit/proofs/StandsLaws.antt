@@ -14,13 +14,11 @@ use Rattle.demands.specs.Cell.{Bytes, Readable}
 use Rattle.demands.specs.Update.{Allowed}
 use Rattle.demands.specs.ByteChart.{Whole}
 use Rattle.demands.proofs.Whole.{whole_back, whole_admitted}
-use Rattle.demands.specs.Written.{admit_wrote}
-use Rattle.unit.specs.Unit.{Offer, offered, BytesEach, UnitOf}
+use Rattle.unit.specs.Unit.{admit_wrote, Offer, offered, BytesEach, UnitOf}
 use Rattle.unit.specs.Unit.UnitOf.{begun, given, again}
 use Rattle.unit.specs.Reissue.{chart_number, shown, worked, Series}
 use Rattle.unit.specs.Reissue.Series.{ended, next}
-use Rattle.demands.proofs.Written.{admit_wrote_lem}
-use Rattle.unit.proofs.CallLaws.{apply_allowed, offered_done, offered_kept}
+use Rattle.unit.proofs.CallLaws.{admit_wrote_lem, apply_allowed, offered_done, offered_kept}
 use Rattle.unit.proofs.SeriesLaws.{worked_append, series_append, worked_whole, worked_number}
 
 pub record Stands (Offered : List ℕ → Type 0) (base : Chart) (cell : List ℕ) : Type 0 where
@@ -54,7 +52,7 @@ module _ {Offered : List ℕ → Type 0} (octets : BytesEach Offered) where
     unfolding shown
     stands_shown = sym (ap (λ (c : Chart). chart_number c) stands_chart ∙ worked_number st.series)
 
-    -- ---- "also where one began from a re-issue that the other wrote earlier.": Admit of it is itself
+    -- ---- "began from the other's re-issue": Admit of it is itself
     pub stands_again : (w : ℕ) (area : List ℕ) → (admit_of cell w (length area)).code ≡ 0 → admit_wrote cell w area ≡ cell
     stands_again w area h = admit_wrote_lem cell w area h ∙ sym stands_held
 

@@ -18,8 +18,7 @@ use Rattle.demands.specs.Update.{Allowed, Areas}
 use Rattle.demands.proofs.Updated.{updated_once}
 use Rattle.demands.proofs.Whole.{whole_back, whole_admitted, whole_updated}
 use Rattle.demands.proofs.Apply.{accepted_exactly}
-use Rattle.demands.specs.Written.{admit_wrote}
-use Rattle.unit.specs.Unit.{Offer, offered, BytesEach, UnitOf}
+use Rattle.unit.specs.Unit.{admit_wrote, Offer, offered, BytesEach, UnitOf}
 use Rattle.unit.specs.Unit.UnitOf.{given}
 use Rattle.unit.specs.Reissue.{chart_number, shown, number_of}
 use Rattle.unit.proofs.CallLaws.{offered_done, offered_kept}
@@ -44,7 +43,7 @@ module _ {Offered : List ℕ → Type 0} {base cell : List ℕ} (b : Bytes base)
             ∙ (updated_once (cell_chart cell) o.file a).number,
       )
 
-  -- "Offer files in any order, repeated or with gaps.": a file of any other number leaves the unit as it is
+  -- "in any order, repeated or with gaps": a file of any other number leaves the unit as it is
   pub unit_waits : (number_of o.file ≡ shown cell + 1 → ⊥) → offered cell o ≡ cell
   unit_waits other = offered_kept cell o (λ h. other (unit_steps h).0)
 

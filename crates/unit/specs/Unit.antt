@@ -1,15 +1,22 @@
 -- A unit, by the calls alone: what Admit wrote, and what becomes of it as files are offered. No chart is named here. `admit_of`, `admit_area`, `apply_of`, `apply_area` are
 -- what the calls' contracts say of answer and output. Assumes nothing.
-use Rattle.std.specs.Prelude.{ℕ, cond, ◌≡◌, length, eqb}
+use Rattle.std.specs.Prelude.{ℕ, cond, ◌≡◌, length, take, eqb}
 use mathlib.Core.List.{List, [], ◌∷◌, Memᴰ, map}
-use Rattle.loader.specs.Admit.{admit_of}
-use Rattle.loader.specs.Apply.{apply_of}
+use Rattle.loader.specs.Admit.{admit_of, admit_area}
+use Rattle.loader.specs.Apply.{apply_of, apply_area}
 use Rattle.demands.specs.Cell.{Bytes}
-use Rattle.demands.specs.Written.{admit_wrote, apply_wrote}
+
+-- ---- what a call wrote, with w bytes of work and this output area lent
+-- "the bytes an accepted Admit wrote (as many as Number says)"
+unfoldable pub admit_wrote : List ℕ → ℕ → List ℕ → List ℕ
+admit_wrote cell w area = take (admit_of cell w (length area)).number (admit_area cell w area)
+
+-- "those Apply on them wrote"
+unfoldable pub apply_wrote : List ℕ → List ℕ → ℕ → List ℕ → List ℕ
+apply_wrote cell file w area = take (apply_of cell file w (length area)).number (apply_area cell file w area)
 
 -- ---- an offer
--- the owner's demand 3: "Offer files in any order, repeated or with gaps."; document 01: "whatever areas were lent". So any file, any length of the work area, any
--- output area as it was lent
+-- "Offer files in any order, repeated or with gaps", "whatever areas were lent": any file, any length of the work area, any output area as it was lent
 pub record Offer : Type 0 where
   pub file : List ℕ
   pub work : ℕ
@@ -36,9 +43,8 @@ abbrev pub BytesEach : (List ℕ → Type 0) → Type 0
 BytesEach Offered = (file : List ℕ) → Offered file → Bytes file
 
 -- ---- a unit of this base, at each moment of its life; `Offered` are the files offered to any unit
--- document 01: "A unit in demand 3 is the bytes an accepted Admit wrote (as many as Number says), replaced at each offered file by those Apply on them wrote if it
--- gave 0, else kept, whatever areas were lent". The owner's demand 3: "Take an admitted base cell." is `begun`; `again` is of "Two units of this base showing the same
--- number therefore hold equal bytes, also where one began from a re-issue that the other wrote earlier.": the cell that Admit accepted was what such a unit held
+-- "A unit in demand 3 is the bytes an accepted Admit wrote (as many as Number says), replaced at each offered file by those Apply on them wrote if it gave 0,
+-- else kept, whatever areas were lent"; and one "began from the other's re-issue" if the cell that Admit accepted was what such a unit held
 pub data UnitOf (Offered : List ℕ → Type 0) (base : List ℕ) : List ℕ → Type 0 where
   begun : (w : ℕ) (area : List ℕ) → (admit_of base w (length area)).code ≡ 0 → UnitOf Offered base (admit_wrote base w area)
   given : {cell : List ℕ} (o : Offer) → Offered o.file → UnitOf Offered base cell → UnitOf Offered base (offered cell o)

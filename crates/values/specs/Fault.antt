@@ -7,5 +7,5 @@ unfoldable pub fault_at : ℕ → Bool → ℕ
 fault_at i good = cond good 0 (i + 1)
 
 -- of two faults, a of the subfields before and b of those after, the first
-unfoldable pub first_fault : ℕ → ℕ → ℕ
-first_fault a b = cond (eqb a 0) b a
+unfoldable pub first : ℕ → ℕ → ℕ
+first a b = cond (eqb a 0) b a

@@ -3,7 +3,7 @@ ghost use Rattle.std.specs.Prelude.{◌≡◌, length};
 ghost use Rattle.values.specs.Frid.{prim_good, frid_fault};
 
 use crate::class::objl_good;
-use crate::fault::{fault_at, first_fault};
+use crate::fault::{fault_at, first};
 use crate::rule::{rcid_good, ruin_good, rver_good};
 use octets::number::get2;
 use table::offsets;
@@ -35,11 +35,8 @@ pub fn frid_fault(f: &[u8], update: bool) -> usize
     let objl = fault_at(offsets::FRID_OBJL, objl_good(get2(f, offsets::FRID_OBJL)));
     let rver = fault_at(offsets::FRID_RVER, rver_good(f, offsets::FRID_RVER));
     let ruin = fault_at(offsets::FRID_RUIN, ruin_good(f[offsets::FRID_RUIN], update));
-    first_fault(
+    first(
         rcnm,
-        first_fault(
-            rcid,
-            first_fault(prim, first_fault(objl, first_fault(rver, ruin))),
-        ),
+        first(rcid, first(prim, first(objl, first(rver, ruin)))),
     )
 }

@@ -1,8 +1,7 @@
-// Document 01's rules under "Values" for VRID and FRID (`vrid_fault`, `frid_fault`), each on one lent
-// field without its closing 1E, whose subfields were found to fill it, and the rule of one number. A
-// fault is 0 where every rule holds, else one more than the place of the first byte of the first
-// subfield that is wrong. The header's fields have crates of their own. It takes numbers from `octets`
-// and where a subfield stands from `table`.
+// Document 01's rules under "Values" for VRID and FRID (`vrid_fault`, `frid_fault`), each on one lent field
+// without its closing 1E, whose subfields were found to fill it, and the rule of one number. A fault is 0
+// where every rule holds, else one more than the place of the first byte of the first subfield that is
+// wrong. The header's fields have crates of their own. Below it stands `octets`.
 pub mod class;
 pub mod fault;
 pub mod frid;
@@ -15,7 +14,7 @@ pub use class::{is_collection, is_geo, is_meta};
 pub use fault::fault_at;
 
 // The fault of the subfields before, or, where there is none, of those after.
-pub use fault::first_fault;
+pub use fault::first;
 
 // The fault of a FRID.
 pub use frid::frid_fault;

@@ -2,7 +2,7 @@
 ghost use Rattle.std.specs.Prelude.{◌≡◌, length};
 ghost use Rattle.values.specs.Vrid.{is_vector, vrid_fault};
 
-use crate::fault::{fault_at, first_fault};
+use crate::fault::{fault_at, first};
 use crate::rule::{rcid_good, ruin_good, rver_good};
 use table::offsets;
 
@@ -28,5 +28,5 @@ pub fn vrid_fault(f: &[u8], update: bool) -> usize
     let rcid = fault_at(offsets::RCID, rcid_good(f, offsets::RCID));
     let rver = fault_at(offsets::VRID_RVER, rver_good(f, offsets::VRID_RVER));
     let ruin = fault_at(offsets::VRID_RUIN, ruin_good(f[offsets::VRID_RUIN], update));
-    first_fault(rcnm, first_fault(rcid, first_fault(rver, ruin)))
+    first(rcnm, first(rcid, first(rver, ruin)))
 }

@@ -9,7 +9,7 @@ use Rattle.answers.specs.declared.answer.Answer.{Answer}
 use Rattle.held.specs.Held.{held_of}
 use Rattle.loader.specs.Admit.{admit_of, admit_area, cell_chart}
 use Rattle.answers.specs.Sixteen.{answer_area}
-use Rattle.reader.specs.Reader.{records_in, cell_records}
+use Rattle.reader.specs.Reader.{records_in, count_in}
 use Rattle.demands.specs.Cell.{Bytes}
 use Rattle.demands.specs.Accepted.{Admissible}
 use Rattle.demands.proofs.Admit.{admitted_exactly, admit_writes}
@@ -33,7 +33,7 @@ pub small_held : held_of (cell_chart small) ≡ held_small
 unfolding judging admitting small_files records_in
 small_held = refl
 
-pub small_count : cell_records small ≡ 7
+pub small_count : count_in small ≡ 7
 unfolding judging small_files records_in
 small_count = refl
 

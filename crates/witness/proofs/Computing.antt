@@ -11,7 +11,7 @@ use Rattle.iso8211.specs.Field as iso8211_field
 use Rattle.iso8211.specs.Field.{directory_at, field_at}
 use Rattle.iso8211.specs.File.{framed_from, frame_of, record_at}
 use Rattle.formats.specs.Formats as iso8211_formats
-use Rattle.formats.specs.Formats.{digit_at, short_from, short_at, is_letter, closed, sized_at, counts, binary_at, primitive_at, single, repeated, joined, followed, form_at, items_from}
+use Rattle.formats.specs.Formats.{digit_at, short_from, short_at, is_letter, closed, sized_at, counts, binary_at, primitive_at, single, repeated, joined, followed, item_at, items_from}
 use Rattle.formats.specs.Formats.{written_at}
 use Rattle.iso8211.specs.Leader.{kind_good, size_good, leader_good}
 use Rattle.iso8211.specs.Record.{field_good, in_row, body_good, record_good}
@@ -27,7 +27,7 @@ use Rattle.dataset.specs.Dsid.{dsid_ends, dsid_laid, is_code, codes_at, extensio
 use Rattle.dataset.specs.Dsid.{names_fault, issue_fault, product_fault, dsid_over, dsid_fault}
 use Rattle.headvalues.specs.Dspm.{dspm_laid, datum_fault, units_fault, factors_fault, dspm_fault}
 use Rattle.headvalues.specs.Dssi.{none_good, dssi_fault}
-use Rattle.values.specs.Fault.{fault_at, first_fault}
+use Rattle.values.specs.Fault.{fault_at, first}
 use Rattle.values.specs.Frid.{prim_good, frid_fault}
 use Rattle.values.specs.Rule.{within, rcid_good, rver_good, ruin_good, profile_of, digits_within}
 use Rattle.headvalues.specs.Text.{is_text, text_good, until_end, text_end}
@@ -94,11 +94,11 @@ use Rattle.answers.specs.Sixteen.{answer_bytes, answer_area}
 -- Judge, and the answer area
 unfoldable pub judging : ℕ
 unfolding flatten is_digit digits_from number_at num_at bytes_of separator_in separator_at parts_at parts_of tag_at row_at rows iso8211_field.count_at directory_at field_at framed_from
-    frame_of record_at digit_at short_from short_at iso8211_formats.count_at is_letter closed sized_at counts binary_at primitive_at single repeated joined followed form_at
+    frame_of record_at digit_at short_from short_at iso8211_formats.count_at is_letter closed sized_at counts binary_at primitive_at single repeated joined followed item_at
     items_from iso8211_formats.list_at written_at kind_good size_good leader_good field_good in_row body_good record_good same_list text_from text_len entry_len entries_from entries_of
     whole_good all_of through insert sorted is_in table as_number row_of among kind_of bytes is_geo is_meta is_collection class_of is_class objl_good is_leap days_in is_date date_good
     dsid_ends dsid_laid is_code codes_at extension_good dsnm_good edtn_good updn_digits updn_good uadt_good sted_good pred_good head_fault names_fault issue_fault product_fault dsid_over
-    dsid_fault dspm_laid datum_fault units_fault factors_fault dspm_fault none_good dssi_fault fault_at first_fault prim_good frid_fault within rcid_good rver_good ruin_good profile_of
+    dsid_fault dspm_laid datum_fault units_fault factors_fault dspm_fault none_good dssi_fault fault_at first prim_good frid_fault within rcid_good rver_good ruin_good profile_of
     digits_within is_text text_good until_end text_end is_vector vrid_fault label_of value_of is_removal value_good attributes_from attributes_fault met_label met_after rind_good
     comment_of ffpt_from ffpt_fault labels_in formats_in same_formats describes described_from described_of opens follows layout_layout.placed may_end filled field_laid laid_from
     layout_fault next_stage chart_read.is_feature aall_at nall_at passed_state records_fault read_fault is_attributes is_high field_fault seen_before seen_after values_from value_fault
@@ -122,7 +122,7 @@ admitting = 0
 unfoldable pub applying : ℕ
 unfolding ruin_at update_fault revised named change finds changes changes_find gone come allowed edited edited_by is_absent no_control plain_at insert_allowed delete_allowed
     list_allowed list_edited is_none coordinates control_of lists_edited allowed_at lists_allowed merge_update.placed without changed obeyed result held_by kinds_of insert_code
-    identity_same edit_allowed modify_code changes_amend.target_code amendment_code amendments_fault change_fault placed_in control_from control_at amendments_from change_of chart_name
+    identity_same edit_allowed modify_code changes_amend.found_code amendment_code amendments_fault change_fault placed_in control_from control_at amendments_from change_of chart_name
     follow_code updated_header amended updated chart_topology apply_of apply_area
 applying = 0
 

@@ -19,7 +19,7 @@ use Rattle.reader.specs.Reader.{records_in}
 use Rattle.demands.specs.Cell.{Readable}
 use Rattle.demands.specs.Update.{Allowed, Areas}
 use Rattle.demands.specs.Accepted.{Judgeable}
-use Rattle.demands.specs.Written.{admit_wrote, apply_wrote, ReadsAs, WorkedIn}
+use Rattle.demands.specs.Written.{admitted_bytes, applied_bytes, ReadsAs, Applied}
 use Rattle.demands.specs.Verdict.{Good}
 use Rattle.demands.proofs.ReadsBack.{held_readable, held_judged}
 use Rattle.demands.proofs.Judge.{judged_exactly}
@@ -57,7 +57,7 @@ pub small_good : Good chart_small
 small_good = admitted_good small 112 2077 small_bytes accepted
 
 -- `admit_written`: what is written reads back as the cell's chart
-pub small_written : ReadsAs (admit_wrote small 112 room) chart_small
+pub small_written : ReadsAs (admitted_bytes small 112 room) chart_small
 small_written = admit_written small 112 room small_bytes (small_accepted 112 (length room) (omega arith) (omega (arith, room_length)))
 
 -- `admit_again`: the held form is admitted as itself
@@ -81,7 +81,7 @@ moving_exactly =
     (held_is_readable chart_small small_whole held_small small_held)).0 (moving_accepted 160 2077 (omega arith) (omega arith))
 
 -- `apply_written`: what is written for update 1 reads back as the updated chart, and against the cell it is the update that was done
-pub moving_written : WorkedIn held_small moving (apply_wrote held_small moving 160 room)
+pub moving_written : Applied held_small moving (applied_bytes held_small moving 160 room)
 moving_written =
     apply_written held_small moving 160 room (held_is_bytes chart_small small_whole held_small small_held) moving_bytes
     (moving_accepted 160 (length room) (omega arith) (omega (arith, room_length)))

@@ -9,7 +9,7 @@ use borrow.Author.Tests.{le-ltb, eq-eqb}
 use Rattle.iso8211.specs.File.{record_at}
 use Rattle.answers.specs.Answer.{refusal, answer, filed}
 use Rattle.answers.specs.First.{first_by}
-use Rattle.reader.specs.Reader.{fronted, work_answer, cell_fault, update_fault, cell_records}
+use Rattle.reader.specs.Reader.{fronted, work_answer, cell_fault, update_fault, count_in}
 use Rattle.held.specs.Chart.{Chart}
 use Rattle.held.specs.Held.{held_of}
 use Rattle.held.specs.Limits.{record_count}
@@ -25,14 +25,14 @@ use Rattle.demands.proofs.Whole.{whole_back, whole_updated}
 
 -- readable files of which the second doesn't follow: 11, whatever the output
 refused_eleven : (cell file : List ℕ) → Readable cell → ReadableUpdate file → change_fault (cell_chart cell) (file_change file) ≡ refusal 11 1 0
-    → (w o : ℕ) → 16 * (cell_records cell + changes_in file) ≤ w → apply_of cell file w o ≡ answer 11 2 1 0 (record_at file 1)
+    → (w o : ℕ) → 16 * (count_in cell + changes_in file) ≤ w → apply_of cell file w o ≡ answer 11 2 1 0 (record_at file 1)
 unfolding apply_of fronted work_answer first_by filed placed_in
 refused_eleven cell file r u e w o work =
     rw (
       r.opened,
       u.opened,
-      le-ltb w (16 * (cell_records cell + changes_in file)) work,
-      eq-eqb (cell_fault cell (cell_records cell)).code 0 r.fine,
+      le-ltb w (16 * (count_in cell + changes_in file)) work,
+      eq-eqb (cell_fault cell (count_in cell)).code 0 r.fine,
       eq-eqb (update_fault file (changes_in file)).code 0 u.fine,
       e,
     )
@@ -48,8 +48,8 @@ module _ (c : Chart) (whole : Whole c) (cell : List ℕ) (is : held_of c ≡ cel
   pub held_means : cell_chart cell ≡ c
   held_means = ap cell_chart (sym is) ∙ (whole_back c whole).2
 
-  pub held_records : cell_records cell ≡ record_count c
-  held_records = ap cell_records (sym is) ∙ held_count c whole.good
+  pub held_records : count_in cell ≡ record_count c
+  held_records = ap count_in (sym is) ∙ held_count c whole.good
 
   pub not_following : (file : List ℕ) → ReadableUpdate file → change_fault c (file_change file) ≡ refusal 11 1 0
       → (w o : ℕ) → 16 * (record_count c + changes_in file) ≤ w → apply_of cell file w o ≡ answer 11 2 1 0 (record_at file 1)

@@ -18,7 +18,7 @@ use Rattle.iso8211.specs.Leader.{base_at}
 use Rattle.iso8211.specs.Directory.{tag}
 use Rattle.iso8211.specs.Field.{count_at, directory_at, field_at}
 use Rattle.iso8211.proofs.Promise.{directory_length}
-use Rattle.table.specs.Table.{Row, FIRST, unknown, VRID, FRID, FOID, table, as_number, row_of, tag_of, among, kind_of}
+use Rattle.table.specs.Table.{Row, first, unknown, VRID, FRID, FOID, table, as_number, row_of, tag_of, among, kind_of}
 use Rattle.table.specs.Text.{bytes}
 use Rattle.layout.specs.Record.{kind_at, content_at}
 use Rattle.layout.proofs.Promise.{full_first}
@@ -39,14 +39,14 @@ use Rattle.writing.proofs.FieldLaws.{content_long, filled_as, fields_full, row_i
 use Rattle.writing.proofs.CopyLaws.{vector_pieces_lem, feature_pieces_lem}
 
 -- ---- a kind of the table has one tag
-past_table : (t : ℕ) → FIRST ≤ cond (eqb t 808464433) FIRST unknown
+past_table : (t : ℕ) → first ≤ cond (eqb t 808464433) first unknown
 past_table t =
     ⊎_elim
     (λ (e : eqb t 808464433 ≡ true). rw e (omega arith))
     (λ (e : eqb t 808464433 ≡ false). rw e (omega arith))
     (true_or_false (eqb t 808464433))
 
-among_tag : (other : Row) (rs : List Row) (j t k : ℕ) → j + length rs ≡ FIRST → among rs j t ≡ k → k < FIRST
+among_tag : (other : Row) (rs : List Row) (j t k : ℕ) → j + length rs ≡ first → among rs j t ≡ k → k < first
     → (j ≤ k) × (t ≡ as_number (bytes (get_or rs (k - j) other).tag) 0)
 unfolding among
 among_tag other [] j t k full e h = absurd (let p = past_table t in omega arith)
@@ -63,11 +63,11 @@ among_tag other (r ∷ rs) j t k full e h =
     (omega arith, rw one rest.1))
     (true_or_false (eqb t (as_number (bytes r.tag) 0)))
 
-kind_tag : (t k : ℕ) → kind_of t ≡ k → k < FIRST → t ≡ tag_of k
+kind_tag : (t k : ℕ) → kind_of t ≡ k → k < first → t ≡ tag_of k
 unfolding kind_of tag_of row_of table
-kind_tag t k e h = (among_tag (row_of FIRST) table 0 t k refl e h).1 ∙ rw (sub-zero k)
+kind_tag t k e h = (among_tag (row_of first) table 0 t k refl e h).1 ∙ rw (sub-zero k)
 
-first_kind : kind_of (tag_of FIRST) ≡ FIRST
+first_kind : kind_of (tag_of first) ≡ first
 unfolding kind_of among tag_of row_of table as_number bytes
 first_kind = refl
 
@@ -86,7 +86,7 @@ list_past s at j n k ne = rw (ne_eqb (kind_at s at j) k ne)
 
 -- the record's own fields, 0001 with this running number
 unfoldable pub standing : ℕ → List ℕ → ℕ → List Piece
-standing number s at = piece FIRST (bytes_of 2 number) ∷ pieces_from (count_at s at - 1) s at 1
+standing number s at = piece first (bytes_of 2 number) ∷ pieces_from (count_at s at - 1) s at 1
 
 module _ (s : List ℕ) (at : ℕ) (w : Writable s at) (plain : Plain (directory_at s at)) where
   laid : LaidOut s at
@@ -95,14 +95,14 @@ module _ (s : List ℕ) (at : ℕ) (w : Writable s at) (plain : Plain (directory
   two : 2 ≤ count_at s at
   two = laid.two
 
-  front_kind : kind_at s at 0 ≡ FIRST
+  front_kind : kind_at s at 0 ≡ first
   unfolding field_at
   front_kind = ap kind_of plain.front ∙ first_kind
 
   -- 0001 is three bytes
   front_long : (field_at s at 0).length ≡ 3
   front_long =
-      let long = full_first (content_at s at 0) (filled_as s at laid 0 (omega arith) FIRST front_kind) in
+      let long = full_first (content_at s at 0) (filled_as s at laid 0 (omega arith) first front_kind) in
       omega (arith, content_long s at laid 0 (omega arith))
 
   pub id_start : id_at s at ≡ at + base_at s at + 3
@@ -111,12 +111,12 @@ module _ (s : List ℕ) (at : ℕ) (w : Writable s at) (plain : Plain (directory
   -- the fields from field j on, where the kinds' tags take them all
   lists_stand : (ks : List ℕ) (low j n due : ℕ) → j + n ≡ count_at s at → Rising low ks → untaken (tags_of ks) (drop j (directory_at s at)) ≡ []
       → (j < count_at s at → (field_at s at j).start ≡ at + base_at s at + due)
-      → ((k : ℕ) → low ≤ k → k < FIRST → list_at s at k ≡ list_in k (pieces_from n s at j)) → field_pieces ks (list_at s at) ≡ pieces_from n s at j
+      → ((k : ℕ) → low ≤ k → k < first → list_at s at k ≡ list_in k (pieces_from n s at j)) → field_pieces ks (list_at s at) ≡ pieces_from n s at j
   lists_stand ks low j n due long rising none starts are =
       all_taken ks (pieces_from n s at j) due low (list_at s at) rising (fields_full s at laid n j long) (rw (fields_rows s at laid n j due long starts) none) are
 
   -- 0001 and the field behind it bring nothing to a list of kind k
-  list_behind : (n k : ℕ) → count_at s at ≡ suc (suc n) → k < FIRST → (kind_at s at 1 ≡ k → ⊥) → list_at s at k ≡ list_in k (pieces_from n s at 2)
+  list_behind : (n k : ℕ) → count_at s at ≡ suc (suc n) → k < first → (kind_at s at 1 ≡ k → ⊥) → list_at s at k ≡ list_in k (pieces_from n s at 2)
   unfolding pieces_at
   list_behind n k long few ne =
       list_seen s at k (pieces_at s at) refl ∙ ap (λ (c : ℕ). list_in k (pieces_from c s at 0)) long
@@ -134,14 +134,14 @@ module _ (s : List ℕ) (at : ℕ) (w : Writable s at) (plain : Plain (directory
     vector_kept n long =
         lists_stand vector_kinds 4 2 n (3 + (field_at s at 1).length) (omega arith) vector_rising none
         (λ (more : 2 < count_at s at). let g = laid.inside.gapless 1 more in omega (arith, id_start))
-        (λ (k : ℕ) (lo : 4 ≤ k) (hi : k < FIRST). list_behind n k long hi (λ (same : kind_at s at 1 ≡ k). omega (arith, vrid)))
+        (λ (k : ℕ) (lo : 4 ≤ k) (hi : k < first). list_behind n k long hi (λ (same : kind_at s at 1 ≡ k). omega (arith, vrid)))
 
     vector_stands : ((i : ℕ) → byte_at s i < 256) → (number n : ℕ) → count_at s at ≡ suc (suc n) → item_pieces number (item_at s at) ≡ standing number s at
     unfolding standing joined_pieces lead_pieces kept_pieces id_kinds
     vector_stands small number n long =
         let rest : count_at s at - 1 ≡ suc n = omega arith in
         vector_pieces_lem s at small w is_vector_lem number
-        ∙ rw (vector_kept n long, rest) (ap (λ (fs : List Piece). piece FIRST (bytes_of 2 number) ∷ fs) (kept_one s at 1 n VRID e))
+        ∙ rw (vector_kept n long, rest) (ap (λ (fs : List Piece). piece first (bytes_of 2 number) ∷ fs) (kept_one s at 1 n VRID e))
 
   -- ---- a feature
   module _ (other : (field_at s at 1).tag ≡ tag_of VRID → ⊥) (none : untaken (tags_of feature_kinds) (drop 3 (directory_at s at)) ≡ []) where
@@ -165,7 +165,7 @@ module _ (s : List ℕ) (at : ℕ) (w : Writable s at) (plain : Plain (directory
         let g = laid.inside.gapless 1 (omega arith) in
         let h = laid.inside.gapless 2 more in
         omega (arith, id_start))
-        (λ (k : ℕ) (lo : 12 ≤ k) (hi : k < FIRST).
+        (λ (k : ℕ) (lo : 12 ≤ k) (hi : k < first).
         list_behind (suc n) k long hi (λ (same : kind_at s at 1 ≡ k). omega (arith, frid))
         ∙ list_past s at 2 n k (λ (same : kind_at s at 2 ≡ k). omega (arith, foid)))
 
@@ -177,7 +177,7 @@ module _ (s : List ℕ) (at : ℕ) (w : Writable s at) (plain : Plain (directory
         let named_two : (field_at s at 2).tag ≡ tag_of FOID = kind_tag (field_at s at 2).tag FOID foid (omega arith) in
         feature_pieces_lem s at small w is_feature_lem number
         ∙ rw (feature_kept n long, rest)
-        (ap (λ (fs : List Piece). piece FIRST (bytes_of 2 number) ∷ fs)
+        (ap (λ (fs : List Piece). piece first (bytes_of 2 number) ∷ fs)
         (ap (λ (fs : List Piece). piece FRID (content_at s at 1) ∷ fs) (kept_one s at 2 n FOID named_two) ∙ kept_one s at 1 (suc n) FRID named_one))
 
     three : 3 ≤ count_at s at
@@ -200,9 +200,9 @@ module _ (s : List ℕ) (at : ℕ) (w : Writable s at) (plain : Plain (directory
   stands_rows number =
       let rest : rows_for 3 (pieces_from (count_at s at - 1) s at 1) ≡ drop 1 (directory_at s at) =
       fields_rows s at laid (count_at s at - 1) 1 3 (omega (arith, two)) (λ (more : 1 < count_at s at). id_start) in
-      let front : get_or (directory_at s at) 0 [] ≡ tag_of FIRST ∷ 3 ∷ 0 ∷ [] =
+      let front : get_or (directory_at s at) 0 [] ≡ tag_of first ∷ 3 ∷ 0 ∷ [] =
       row_is s at 0 0 (omega (arith, two)) (let f = laid.inside.front in omega arith)
-      ∙ ap (λ (t : ℕ). t ∷ (field_at s at 0).length ∷ 0 ∷ []) plain.front ∙ ap (λ (n : ℕ). tag_of FIRST ∷ n ∷ 0 ∷ []) front_long in
+      ∙ ap (λ (t : ℕ). t ∷ (field_at s at 0).length ∷ 0 ∷ []) plain.front ∙ ap (λ (n : ℕ). tag_of first ∷ n ∷ 0 ∷ []) front_long in
       rw (bytes_length 2 number, rest)
       (sym (drop-cons (directory_at s at) 0 [] (rw (directory_length s at) (omega (arith, two))) ∙ ap (λ (r : List ℕ). r ∷ drop 1 (directory_at s at)) front))
 

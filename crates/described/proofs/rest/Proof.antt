@@ -4,14 +4,14 @@ use mathlib.Core.Path.{◌≡◌}
 use lib.ListN.{length}
 use Rattle.table.specs.Table.{kind_count}
 use Rattle.iso8211.specs.Field.{count_at}
-use Rattle.declarations.specs.Described.{described_from, no_marks}
+use Rattle.declarations.specs.Described.{described_from, none}
 use Rattle.declarations.proofs.DescribedLaws.{field_room, turn_unknown, turn_twice, turn_other, turn_on, turn_end}
 use borrow.Author.Rules.{rules}
 use Rattle.described.proofs.rest.Statement.{statement}
 use Rattle.described.proofs.rest.Tie as tie
 
 abbrev invariant-loop : tie.invariant-loop
-invariant-loop s head count marks₀ j₀ marks j = (length marks ≡ kind_count) × (described_from (count_at s 0 - 2) s 2 no_marks ≡ described_from (count_at s 0 - j) s j marks)
+invariant-loop s head count marks₀ j₀ marks j = (length marks ≡ kind_count) × (described_from (count_at s 0 - 2) s 2 none ≡ described_from (count_at s 0 - j) s j marks)
 
 abbrev decreases-loop : tie.decreases-loop
 decreases-loop s head count marks₀ j₀ marks j = count - j

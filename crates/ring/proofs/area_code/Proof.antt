@@ -1,5 +1,6 @@
--- The number of each case.
-use Rattle.ring.proofs.RingLaws.{area_closed, area_broken, area_missing}
+-- The walk says whether there is a fault, the names which.
+use Rattle.pointer.proofs.PointerLaws.{fspt_wide}
+use Rattle.ring.proofs.RingLaws.{area_good_lem, area_missing, area_open}
 use borrow.Author.Rules.{rules}
 use Rattle.ring.proofs.area_code.Statement.{statement}
 use Rattle.ring.proofs.area_code.Tie as tie
@@ -7,36 +8,21 @@ use Rattle.ring.proofs.area_code.Tie as tie
 starts-of-requires : tie.Need-starts-of-requires
 starts-of-requires c κs = search rules
 
-rings-of-requires : tie.Need-rings-of-requires
-rings-of-requires c κs = search rules
-
-enum_told : tie.Need-enum-told
-enum_told c = search rules
-
-enum-told-2 : tie.Need-enum-told-2
-enum-told-2 c = search rules
-
-enum-told-3 : tie.Need-enum-told-3
-enum-told-3 c = search rules
+rings-closed-requires : tie.Need-rings-closed-requires
+rings-closed-requires c κs = search rules
 
 returns : tie.Need-returns
-returns c = search (rules, area_closed)
+returns c = search (rules, area_good_lem)
+
+names-code-requires : tie.Need-names-code-requires
+names-code-requires c κs = search (rules, fspt_wide)
 
 returns-2 : tie.Need-returns-2
-returns-2 c = search (rules, area_broken)
+returns-2 c = search (rules, area_missing)
 
 returns-3 : tie.Need-returns-3
-returns-3 c = search (rules, area_missing)
+returns-3 c = search (rules, area_open)
 
 pub area-code-spec : {M : Type 1} → statement M
 area-code-spec =
-    tie.close
-    (tie.spec
-    starts-of-requires
-    rings-of-requires
-    enum_told
-    enum-told-2
-    enum-told-3
-    returns
-    returns-2
-    returns-3)
+    tie.close (tie.spec starts-of-requires rings-closed-requires returns names-code-requires returns-2 returns-3)

@@ -5,14 +5,14 @@ use lib.ListN.{length, drop}
 use Rattle.items.specs.Item.{item_at}
 use Rattle.edits.specs.Lists.{lists_allowed}
 use Rattle.changes.specs.Change.{amendment_at, edit_of}
-use Rattle.amend.specs.Sides.{AmendAreas}
+use Rattle.amend.specs.Sides.{Areas}
 use Rattle.amend.proofs.RuleLaws.{four_kind, four_no, four_on, four_end}
 use Rattle.allowed.proofs.rule.four_allowed.Statement.{statement}
 use Rattle.allowed.proofs.rule.four_allowed.Tie as tie
 
 abbrev invariant-loop : tie.invariant-loop
 invariant-loop cell at hc lc update by hu lu plan join₀ table₀ room₀ kinds i₀ join table room i =
-    (i ≤ 4) × AmendAreas join table × (length join ≡ length join₀) × (length table ≡ length table₀) × (length room ≡ length room₀)
+    (i ≤ 4) × Areas join table × (length join ≡ length join₀) × (length table ≡ length table₀) × (length room ≡ length room₀)
     × (lists_allowed kinds (edit_of (amendment_at update by)) (item_at cell at).lists ≡ lists_allowed (drop i kinds) (edit_of (amendment_at update by)) (item_at cell at).lists)
 
 abbrev decreases-loop : tie.decreases-loop

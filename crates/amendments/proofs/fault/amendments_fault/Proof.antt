@@ -4,7 +4,7 @@ use mathlib.Core.Path.{◌≡◌}
 use lib.ListN.{length}
 use Rattle.words.specs.Words.{words_in}
 use Rattle.names.specs.NameWords.{items_at}
-use Rattle.amend.specs.Sides.{AmendAreas}
+use Rattle.amend.specs.Sides.{Areas}
 use Rattle.amendments.proofs.FaultLaws.{Judging, judging_start, judging_here, judging_framed, judging_stop, judging_on, judging_end}
 use borrow.Author.Rules.{rules}
 use Rattle.amendments.proofs.fault.amendments_fault.Statement.{statement}
@@ -12,7 +12,7 @@ use Rattle.amendments.proofs.fault.amendments_fault.Tie as tie
 
 abbrev invariant-loop : tie.invariant-loop
 invariant-loop cell update m work from n join₀ table₀ room₀ at₀ k₀ join table room at k =
-    Judging (items_at cell (words_in work from n)) update m k at × AmendAreas join table × (length join ≡ length join₀) × (length table ≡ length table₀)
+    Judging (items_at cell (words_in work from n)) update m k at × Areas join table × (length join ≡ length join₀) × (length table ≡ length table₀)
     × (length room ≡ length room₀)
 
 abbrev decreases-loop : tie.decreases-loop

@@ -1,6 +1,6 @@
 -- The pass, then the words in order and the names.
 use native.Mathlib.Omega.{arith}
-use Rattle.reader.proofs.FrontLaws.{started_at}
+use Rattle.readonce.proofs.CellLaws.{started_at}
 use Rattle.bothonce.proofs.UpdateLaws.{update_not, once_readable, once_two, once_few, once_words, once_room, update_all}
 use borrow.Author.Rules.{rules}
 use Rattle.bothonce.proofs.update.update_once.Statement.{statement}
@@ -19,7 +19,7 @@ returns : tie.Need-returns
 returns c = update_not
 
 file-once-requires : tie.Need-file-once-requires
-file-once-requires c κs = started_at 2 _ c.before.before.before.before.started.ensures.0 (search rules)
+file-once-requires c κs = started_at 2 _ c.before.before.before.before.started.ensures (search rules)
 
 same_length : tie.Need-same-length
 same_length c = search rules

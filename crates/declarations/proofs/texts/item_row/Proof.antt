@@ -4,7 +4,7 @@ use Prim.Native.Nat.{◌≤◌}
 use borrow.Author.Rules.{rules}
 use Rattle.table.proofs.TableLaws.{row_past, past}
 use Rattle.table.specs.Text.{bytes}
-use Rattle.table.specs.Table.{table, row_of, FIRST}
+use Rattle.table.specs.Table.{table, row_of, first}
 use Rattle.declarations.proofs.texts.item_row.Statement.{statement}
 use Rattle.declarations.proofs.texts.item_row.Tie as tie
 
@@ -72,7 +72,7 @@ returns-16 : tie.Need-returns-16
 unfolding row_of table bytes
 returns-16 c =
     let r = c.before.before.before.match.rest in
-    let h : FIRST ≤ c.before.before.before.before.before.args.k =
+    let h : first ≤ c.before.before.before.before.before.args.k =
     past 17 _ (past 16 _ (past 15 _ (past 14 _ (past 13 _ (past 12 _ (past 11 _ (past 10 _ (past 9 _ (past 8 _ (past 7 _ (past 6 _ (past 5 _ (past 4 _ (past 3 _
     c.before.before.before.before.before.requires.1
     r.0.0.0.0.0.0.0.0.0.0.0.0.0.0.1)

@@ -59,8 +59,7 @@ loop-less : tie.Need-loop-smaller invariant-loop decreases-loop invariant-rings 
 loop-less c =
     let edge = c.before.before.before.before.before in
     let taken = edge.t.given in
-    let trod = edge.before.before in
-    omega (arith, trod_room _ _ _ _ _ _ trod.trod-at.ensures taken.0.0 taken.0.1.0 taken.1 trod.before.loop.invariant.0.within)
+    omega (arith, trod_room _ _ _ _ _ _ _ edge.before.before.trod-at.ensures taken.0.0 taken.0.1.0 taken.1)
 
 loop-again : tie.Need-loop-preserved invariant-loop decreases-loop invariant-rings decreases-rings
 loop-again c =

@@ -1,5 +1,5 @@
 -- Refused at record 0, or framed from record 1 on.
-use Rattle.reader.proofs.FrontLaws.{start_framed, started_refused}
+use Rattle.reader.proofs.FrontLaws.{start_framed, start_answer}
 use borrow.Author.Rules.{rules}
 use Rattle.reader.proofs.front.opened.Statement.{statement}
 use Rattle.reader.proofs.front.opened.Tie as tie
@@ -14,10 +14,10 @@ enum-known-start-2 : tie.Need-enum-known-start-2
 enum-known-start-2 c = search rules
 
 opened-from-requires : tie.Need-opened-from-requires
-opened-from-requires c κs = start_framed _ _ c.before.before.before.started.ensures.0 (search rules)
+opened-from-requires c κs = start_framed _ c.before.before.before.started.ensures _ (search rules)
 
 returns : tie.Need-returns
-returns c = started_refused _ _ _ c.before.before.before.started.ensures.0 (search rules)
+returns c = start_answer _ c.before.before.before.started.ensures _ (search rules)
 
 returns-2 : tie.Need-returns-2
 returns-2 c = search rules

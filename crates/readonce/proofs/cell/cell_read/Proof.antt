@@ -1,6 +1,5 @@
 -- Refused at record 0, or read from record 1 on.
-use Rattle.reader.proofs.FrontLaws.{started_at}
-use Rattle.readonce.proofs.CellLaws.{told_start}
+use Rattle.readonce.proofs.CellLaws.{told_start, started_at}
 use borrow.Author.Rules.{rules}
 use Rattle.readonce.proofs.cell.cell_read.Statement.{statement}
 use Rattle.readonce.proofs.cell.cell_read.Tie as tie
@@ -15,10 +14,10 @@ enum-known-start-2 : tie.Need-enum-known-start-2
 enum-known-start-2 c = search rules
 
 read-from-requires : tie.Need-read-from-requires
-read-from-requires c κs = started_at 1 _ c.before.before.before.before.started.ensures.0 (search rules)
+read-from-requires c κs = started_at 1 _ c.before.before.before.before.started.ensures (search rules)
 
 returns : tie.Need-returns
-returns c = told_start _ _ _ c.before.before.before.started.ensures.0 (search rules)
+returns c = told_start _ _ _ c.before.before.before.started.ensures (search rules)
 
 same_length : tie.Need-same-length
 same_length c = search rules

@@ -2,14 +2,14 @@ use borrow.Author.Rules.{rules}
 use Prim.Native.Nat.{◌-◌}
 use mathlib.Core.Path.{◌≡◌}
 use lib.ListN.{length}
-use Rattle.amend.specs.Sides.{AmendAreas}
+use Rattle.amend.specs.Sides.{Areas}
 use Rattle.rebuild.proofs.PuttingLaws.{Putting, putting_start, editable_sides, editable_kind, editable_allowed, putting_room, putting_high, putting_on, putting_end}
 use Rattle.rebuild.proofs.record.put_edited_lists.Statement.{statement}
 use Rattle.rebuild.proofs.record.put_edited_lists.Tie as tie
 
 abbrev invariant-loop : tie.invariant-loop
 invariant-loop cell at hc lc update by hu lu plan join₀ table₀ room₀ kinds totals₀ next₀ i₀ join table room totals next i =
-    Putting cell at update by kinds room₀ room next totals i × AmendAreas join table × (length join ≡ length join₀) × (length table ≡ length table₀)
+    Putting cell at update by kinds room₀ room next totals i × Areas join table × (length join ≡ length join₀) × (length table ≡ length table₀)
 
 abbrev decreases-loop : tie.decreases-loop
 decreases-loop cell at hc lc update by hu lu plan join₀ table₀ room₀ kinds totals₀ next₀ i₀ join table room totals next i = 4 - i

@@ -38,7 +38,7 @@ vector-front-requires : tie.Need-vector-front-requires
 vector-front-requires c κs = search rules
 
 returns-3 : tie.Need-returns-3
-returns-3 c = c.vector-front.ensures _ _ (behind_vrid (search rules) (search (rules, behind_first)) _ c.before.before.vrid_fine.ensures (search rules))
+returns-3 c = c.vector_front.ensures _ _ (behind_vrid (search rules) (search (rules, behind_first)) _ c.before.before.vrid_fine.ensures (search rules))
 
 pub front-spec : {M : Type 1} → statement M
 front-spec =

@@ -1,21 +1,26 @@
 -- One test a way out.
-use mir.Syntax.{w32}
-use mir.Val.{Fits}
-use native.Mathlib.Omega.{arith}
-use lib.ListN.{get_or}
-use Rattle.recordfine.proofs.RowsLaws.{taken_so}
+use Rattle.recordfine.proofs.WalkLaws.{row_so}
 use borrow.Author.Rules.{rules}
 use Rattle.recordfine.proofs.row.row_fine.Statement.{statement}
 use Rattle.recordfine.proofs.row.row_fine.Tie as tie
 
-array-read-long : tie.Need-array-read-long
-array-read-long c = search rules
+add-digits-at : tie.Need-overflow-add-digits-at
+add-digits-at c = search rules
+
+digits-at-requires : tie.Need-digits-at-requires
+digits-at-requires c κs = search rules
 
 cast-long : tie.Need-overflow-cast-long
 cast-long c = search rules
 
-array-read-position : tie.Need-array-read-position
-array-read-position c = search rules
+add-digits-at-2 : tie.Need-overflow-add-digits-at-2
+add-digits-at-2 c = search rules
+
+add-digits-at-3 : tie.Need-overflow-add-digits-at-3
+add-digits-at-3 c = search rules
+
+digits-at-requires-2 : tie.Need-digits-at-requires-2
+digits-at-requires-2 c κs = search rules
 
 cast-position : tie.Need-overflow-cast-position
 cast-position c = search rules
@@ -27,7 +32,7 @@ returns-2 : tie.Need-returns-2
 returns-2 c = search rules
 
 add-if3 : tie.Need-overflow-add-if3
-add-if3 c = let short : Fits w32 (get_or c.before.before.args.t2 1 0) = search rules in omega arith
+add-if3 c = search rules
 
 returns-3 : tie.Need-returns-3
 returns-3 c = search rules
@@ -48,15 +53,18 @@ returns-4 : tie.Need-returns-4
 returns-4 c = search rules
 
 returns-5 : tie.Need-returns-5
-returns-5 c = search (rules, taken_so)
+returns-5 c = search (rules, row_so)
 
 pub row-fine-spec : {M : Type 1} → statement M
 row-fine-spec =
     tie.close
     (tie.spec
-    array-read-long
+    add-digits-at
+    digits-at-requires
     cast-long
-    array-read-position
+    add-digits-at-2
+    add-digits-at-3
+    digits-at-requires-2
     cast-position
     returns
     returns-2
