@@ -10,9 +10,13 @@ ghost use Rattle.iso8211.specs.declared.file.Framed.TheVariants.{Records};
 use iso8211::Framed;
 use iso8211::field::{field_at, head_of, record_end};
 use iso8211::file::frame;
-use libc::{STDIN_FILENO, STDOUT_FILENO};
 
 mod text;
+
+// The descriptors of standard input and standard output.
+const STDIN: i32 = 0;
+
+pub const STDOUT: i32 = 1;
 
 // The line of record k, at `at`, behind what waits in `out`.
 fn put_record(file: &[u8], at: usize, k: usize, out: &mut [u8; 4096], used: usize) -> usize
@@ -50,14 +54,14 @@ fn write_records(file: &[u8], n: usize)
 
 // The one line of a file whose record k is the first bad one.
 fn write_broken(k: usize) {
-    io::write_all(STDOUT_FILENO, b"broken\t");
-    io::print_decimal(STDOUT_FILENO, k as u64);
-    io::write_all(STDOUT_FILENO, b"\n");
+    io::write_all(STDOUT, b"broken\t");
+    io::print_decimal(STDOUT, k as u64);
+    io::write_all(STDOUT, b"\n");
 }
 
 fn list(file: &[u8]) {
     if 65536 < file.len() {
-        io::write_all(STDOUT_FILENO, b"too long\n");
+        io::write_all(STDOUT, b"too long\n");
         return;
     }
     let framed = frame(file);
@@ -70,6 +74,6 @@ fn list(file: &[u8]) {
 // One byte more than a file may have is read, to tell a longer one.
 fn main() {
     let mut area = [0u8; 65537];
-    let n = io::read_full(STDIN_FILENO, &mut area);
+    let n = io::read_full(STDIN, &mut area);
     list(&area[..n]);
 }

@@ -3,14 +3,14 @@
 // then.
 ghost use Rattle.std.specs.Prelude.{◌≤◌};
 
-use libc::STDOUT_FILENO;
+use crate::STDOUT;
 
 // Writes out what waits.
 pub fn flush(out: &[u8; 4096], used: usize)
     requires { used ≤ 4096 }
 {
     let all: &[u8] = out;
-    io::write_all(STDOUT_FILENO, &all[..used]);
+    io::write_all(STDOUT, &all[..used]);
 }
 
 pub fn put_byte(out: &mut [u8; 4096], used: usize, b: u8) -> usize
@@ -20,7 +20,7 @@ pub fn put_byte(out: &mut [u8; 4096], used: usize, b: u8) -> usize
         out[used] = b;
         return used + 1;
     }
-    io::write_all(STDOUT_FILENO, out);
+    io::write_all(STDOUT, out);
     out[0] = b;
     1
 }

@@ -12,11 +12,15 @@ use answers::codes::LONG;
 use iso8211::Framed;
 use iso8211::file::frame;
 use judging::judge::judge;
-use libc::{STDIN_FILENO, STDOUT_FILENO};
 use lines::put_cell;
 use listingrows::text::put_refused;
 
 mod lines;
+
+// The descriptors of standard input and standard output.
+const STDIN: i32 = 0;
+
+const STDOUT: i32 = 1;
 
 // The text for a cell whose verdict is a.
 fn put_answer(file: &[u8], a: Answer, work: &mut [u8], out: &mut [u8]) -> usize
@@ -51,7 +55,7 @@ fn main() {
     let mut area = [0u8; 65537];
     let mut work = [0u8; 32768];
     let mut out = [0u8; 163904];
-    let n = io::read_full(STDIN_FILENO, &mut area);
+    let n = io::read_full(STDIN, &mut area);
     let end = list(&area[..n], &mut work, &mut out);
-    io::write_all(STDOUT_FILENO, &out[..end]);
+    io::write_all(STDOUT, &out[..end]);
 }
