@@ -7,7 +7,7 @@ use native.Mathlib.Omega.{arith}
 use lib.ListN.{length, length-append}
 use lib.Dec.{ltb, lit<}
 use borrow.Author.Tests.{ltb-true}
-use Rattle.octets.proofs.ListLaws.{all_below_lem, all_below_lem}
+use Rattle.octets.proofs.ListLaws.{all_below, all_below_lem}
 use Rattle.octets.specs.Number.{byte_at, bytes_of}
 use Rattle.octets.specs.Digits.{digits_of, fewest}
 use Rattle.octets.proofs.DigitsLaws.{fewest_most}
@@ -133,7 +133,7 @@ records_low (fit_more fit fits) (all_more h rest) = all_join (record_low fit h) 
 
 -- ---- the fields of a chart
 tag_four : (k : ℕ) → k < kind_count → tag_of k < 4294967296
-unfolding all_below_lem tag_of row_of table as_number bytes
+unfolding all_below tag_of row_of table as_number bytes
 tag_four k h = ltb-true (tag_of k) 4294967296 (all_below_lem (λ (j : ℕ). ltb (tag_of j) 4294967296) kind_count k refl h)
 
 piece_low : (k : ℕ) {c : List ℕ} → k < kind_count → ByteList c → BytePiece (piece k c)

@@ -7,7 +7,7 @@ use native.Mathlib.Omega.{arith}
 use lib.ListN.{length, get_or}
 use lib.Dec.{eqb}
 use borrow.Author.Tests.{le-leb, eqb-true}
-use Rattle.octets.proofs.ListLaws.{all_below_lem, all_below_lem}
+use Rattle.octets.proofs.ListLaws.{all_below, all_below_lem}
 use Rattle.octets.specs.Digits.{digits_from, number_at, is_digit, digits_of, fewest, fewest_from}
 use Rattle.iso8211.specs.Leader.{kind_good, size_good, leader_good}
 use Rattle.iso8211.specs.Directory.{tag_at, row_at, rows}
@@ -49,7 +49,7 @@ unfolding first_bytes digits_from number_at is_digit tag_at row_at rows count_at
 literal_described t = refl
 
 declared_first_lem : (k : ℕ) → k ≤ first → (row_of k).control ≡ false → get_or first_marks k 0 ≡ 1
-unfolding all_below_lem row_of table
+unfolding all_below row_of table
 declared_first_lem k few free =
     eqb-true (get_or first_marks k 0) 1
     (or_free (row_of k).control (eqb (get_or first_marks k 0) 1) (all_below_lem (λ j. (row_of j).control || eqb (get_or first_marks j 0) 1) (suc first) k refl (omega arith)) free)

@@ -9,7 +9,7 @@ use native.Mathlib.Omega.{arith}
 use lib.ListN.{length, get_or}
 use lib.Dec.{eqb, leb}
 use borrow.Author.Tests.{eq-eqb, ne_eqb, eqb-true, eqb-false, leb-true}
-use Rattle.octets.proofs.ListLaws.{all_below_lem, all_below_lem}
+use Rattle.octets.proofs.ListLaws.{all_below, all_below_lem}
 use Rattle.octets.specs.Lists.{is_in}
 use Rattle.octets.specs.Number.{byte_at, num_at}
 use Rattle.octets.proofs.Cases.{true_or_false, eq_or_ne, le_or_lt}
@@ -161,13 +161,13 @@ implied_both true false c h p q = never q
 implied_both false b c h p q = never p
 
 vector_kinds_lem : (k : ℕ) → (row_of k).list ≡ true → (row_of k).group ≡ 2 → is_in k vector_kinds ≡ true
-unfolding all_below_lem row_of table is_in
+unfolding all_below row_of table is_in
 vector_kinds_lem k list group =
     implied_both (row_of k).list (eqb (row_of k).group 2) (is_in k vector_kinds)
     (all_below_lem (λ j. not ((row_of j).list && eqb (row_of j).group 2) || is_in j vector_kinds) first k refl (list_few k list)) list (eq-eqb _ _ group)
 
 feature_kinds_lem : (k : ℕ) → (row_of k).list ≡ true → (row_of k).group ≡ 3 → is_in k feature_kinds ≡ true
-unfolding all_below_lem row_of table is_in
+unfolding all_below row_of table is_in
 feature_kinds_lem k list group =
     implied_both (row_of k).list (eqb (row_of k).group 3) (is_in k feature_kinds)
     (all_below_lem (λ j. not ((row_of j).list && eqb (row_of j).group 3) || is_in j feature_kinds) first k refl (list_few k list)) list (eq-eqb _ _ group)

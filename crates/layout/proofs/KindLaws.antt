@@ -8,7 +8,7 @@ use native.Mathlib.Omega.{arith}
 use lib.ListN.{length, get_or}
 use lib.Dec.{eqb, leb, ltb}
 use borrow.Author.Tests.{leb-true, ltb-true, eqb-true, eq-eqb, not-true}
-use Rattle.octets.proofs.ListLaws.{all_below_lem, all_below_lem}
+use Rattle.octets.proofs.ListLaws.{all_below, all_below_lem}
 use Rattle.octets.proofs.Tests.{both, all4, implied, or_cases}
 use Rattle.entries.specs.Premises.{Sound}
 use Rattle.entries.specs.Rules.{all_of}
@@ -59,11 +59,11 @@ kind_few t = among_few table 0 t (omega arith)
 
 -- ---- a rule of every kind
 -- a test of kinds that only kind n passes
-only : (test : ℕ → Bool) (n k : ℕ) → all_below_lem kind_count (λ j. not (test j) || eqb j n) ≡ true → k < kind_count → test k ≡ true → k ≡ n
+only : (test : ℕ → Bool) (n k : ℕ) → all_below kind_count (λ j. not (test j) || eqb j n) ≡ true → k < kind_count → test k ≡ true → k ≡ n
 only test n k all few h = eqb-true k n (implied (test k) (eqb k n) (all_below_lem (λ j. not (test j) || eqb j n) kind_count k all few) h)
 
 -- a test of kinds that none passes
-never : (test : ℕ → Bool) (k : ℕ) → all_below_lem kind_count (λ j. not (test j)) ≡ true → k < kind_count → test k ≡ true → ⊥
+never : (test : ℕ → Bool) (k : ℕ) → all_below kind_count (λ j. not (test j)) ≡ true → k < kind_count → test k ≡ true → ⊥
 never test k all few h =
     let n = all_below_lem (λ j. not (test j)) kind_count k all few in
     let f : not true ≡ true = rw h at n in
@@ -72,19 +72,19 @@ never test k all few h =
 
 -- ---- which kind opens a record
 pub opens_dsid : (k : ℕ) → k < kind_count → opens 0 k ≡ true → k ≡ DSID
-unfolding opens row_of table all_below_lem
+unfolding opens row_of table all_below
 opens_dsid k few h = only (opens 0) DSID k refl few h
 
 pub opens_dspm : (k : ℕ) → k < kind_count → opens 1 k ≡ true → k ≡ DSPM
-unfolding opens row_of table all_below_lem
+unfolding opens row_of table all_below
 opens_dspm k few h = only (opens 1) DSPM k refl few h
 
 pub opens_feature : (k : ℕ) → k < kind_count → opens 3 k ≡ true → k ≡ FRID
-unfolding opens row_of table all_below_lem
+unfolding opens row_of table all_below
 opens_feature k few h = only (opens 3) FRID k refl few h
 
 pub opens_item : (k : ℕ) → k < kind_count → opens 2 k ≡ true → (k ≡ VRID) ⊎ (k ≡ FRID)
-unfolding opens row_of table all_below_lem
+unfolding opens row_of table all_below
 opens_item k few h =
     let t = implied (opens 2 k) (eqb k VRID || eqb k FRID) (all_below_lem (λ j. not (opens 2 j) || (eqb j VRID || eqb j FRID)) kind_count k refl few) h in
     ⊎_elim (λ (v : eqb k VRID ≡ true). inl (eqb-true _ _ v)) (λ (f : eqb k FRID ≡ true). inr (eqb-true _ _ f)) (or_cases (eqb k VRID) (eqb k FRID) t)
@@ -110,17 +110,17 @@ first_apart = refl
 
 -- ---- which kind follows which
 pub follows_dsid : (update : Bool) (k : ℕ) → k < kind_count → follows update DSID k ≡ true → k ≡ DSSI
-unfolding follows row_of table all_below_lem
+unfolding follows row_of table all_below
 follows_dsid true k few h = only (follows true DSID) DSSI k refl few h
 follows_dsid false k few h = only (follows false DSID) DSSI k refl few h
 
 pub follows_dssi : (update : Bool) (k : ℕ) → k < kind_count → follows update DSSI k ≡ true → ⊥
-unfolding follows row_of table all_below_lem
+unfolding follows row_of table all_below
 follows_dssi true k few h = never (follows true DSSI) k refl few h
 follows_dssi false k few h = never (follows false DSSI) k refl few h
 
 pub follows_dspm : (update : Bool) (k : ℕ) → k < kind_count → follows update DSPM k ≡ true → ⊥
-unfolding follows row_of table all_below_lem
+unfolding follows row_of table all_below
 follows_dspm true k few h = never (follows true DSPM) k refl few h
 follows_dspm false k few h = never (follows false DSPM) k refl few h
 

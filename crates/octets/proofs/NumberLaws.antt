@@ -23,7 +23,7 @@ join_small a b P Q ha hb = let h : P * (b + 1) ≤ P * Q = mul-le-mul_left P (om
 pub reads_join : {s : List ℕ} {p a b : ℕ} (m n : ℕ) → Reads s p m a → Reads s (p + m) n b → Reads s p (m + n) (a + 256 ^ m * b)
 reads_join {s} {p} {a} {b} m n f g = record {
   is = rw (num_join s p m n, ← f.is, ← g.is);
-  small = rw (lib.Pow.pow_add 256 m n) (join_small a b (256 ^ m) (256 ^ n) f.small g.small);
+  small = rw (lib.Pow.pow-add 256 m n) (join_small a b (256 ^ m) (256 ^ n) f.small g.small);
 }
 
 pub reads_one : {s : List ℕ} {p b : ℕ} → b ≡ byte_at s p → b < 256 → Reads s p 1 b
