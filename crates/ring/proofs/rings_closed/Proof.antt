@@ -82,7 +82,7 @@ loop-holds c =
     let told = entered.before.before in
     let began =
     ring_begin _ _ _ _ _ _ _ told.before.rings.invariant.1 _ told.next.ensures entry.0.0 entry.0.1.0 entry.0.1.1.0 entry.1 _
-    stepped.step_of_lem.ensures taken.0.0 taken.1 in
+    stepped.step_of.ensures taken.0.0 taken.1 in
     (search (rules, next_in), began, search rules, search rules)
 
 usage-good-requires : tie.Need-usage-good-requires invariant-loop decreases-loop invariant-rings decreases-rings

@@ -21,12 +21,12 @@ wide-requires-2 : tie.Need-wide-requires-2
 wide-requires-2 c κs = search rules
 
 returns : tie.Need-returns
-returns c = passed_first _ _ _ _ _ _ c.before.before.before.before.next-stage.ensures c.before.before.before.before.before.is_feature_lem.ensures _ _
+returns c = passed_first _ _ _ _ _ _ c.before.before.before.before.next-stage.ensures c.before.before.before.before.before.is_feature.ensures _ _
     c.before.before.before.if1.true (c.before.wide.ensures.0 ∙ c.before.before.levels-at.ensures.0)
     (c.wide2.ensures.0 ∙ c.before.before.levels-at.ensures.1)
 
 returns-2 : tie.Need-returns-2
-returns-2 c = passed_later _ _ _ _ _ _ c.before.next-stage.ensures c.before.before.is_feature_lem.ensures c.if1.false
+returns-2 c = passed_later _ _ _ _ _ _ c.before.next-stage.ensures c.before.before.is_feature.ensures c.if1.false
 
 pub passed-spec : {M : Type 1} → statement M
 passed-spec =

@@ -14,7 +14,7 @@ start-at-requires c κs = search rules
 read-fault-from-requires : tie.Need-read-fault-from-requires
 read-fault-from-requires c κs =
     let framed = c.before.before.before.requires.0 in
-    (framed, c.before.before.before.requires.1, read_first _ _ _ _ _ (last_ends _ _ framed).0 c.before.record-end.ensures.0 c.start_at_lem.ensures)
+    (framed, c.before.before.before.requires.1, read_first _ _ _ _ _ (last_ends _ _ framed).0 c.before.record-end.ensures.0 c.start_at.ensures)
 
 returns : tie.Need-returns
 returns c = search rules

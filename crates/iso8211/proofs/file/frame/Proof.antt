@@ -21,25 +21,25 @@ good-end-requires : tie.Need-good-end-requires invariant-loop decreases-loop
 good-end-requires c κs = omega arith
 
 returns : tie.Need-returns invariant-loop decreases-loop
-returns c = frame_broken _ _ _ _ c.before.before.loop.invariant.2 c.before.good_end_lem.ensures.0 c.if1.true
+returns c = frame_broken _ _ _ _ c.before.before.loop.invariant.2 c.before.good_end.ensures.0 c.if1.true
 
 add-t7 : tie.Need-overflow-add-t7 invariant-loop decreases-loop
 add-t7 c = omega arith
 
 returns-2 : tie.Need-returns-2 invariant-loop decreases-loop
-returns-2 c = frame_done _ _ _ _ c.before.before.before.loop.invariant.2 c.before.before.good_end_lem.ensures.0 c.before.if1.false c.if2.true
+returns-2 c = frame_done _ _ _ _ c.before.before.before.loop.invariant.2 c.before.before.good_end.ensures.0 c.before.if1.false c.if2.true
 
 add-k : tie.Need-overflow-add-k invariant-loop decreases-loop
 add-k c = omega arith
 
 loop-less : tie.Need-loop-smaller invariant-loop decreases-loop
-loop-less c = omega (arith, frame_past _ _ _ _ c.before.before.before.loop.invariant.2 c.before.before.good_end_lem.ensures.0 c.before.if1.false)
+loop-less c = omega (arith, frame_past _ _ _ _ c.before.before.before.loop.invariant.2 c.before.before.good_end.ensures.0 c.before.if1.false)
 
 loop-again : tie.Need-loop-preserved invariant-loop decreases-loop
 loop-again c = (
-  omega (arith, frame_past _ _ _ _ c.before.before.before.loop.invariant.2 c.before.before.good_end_lem.ensures.0 c.before.if1.false),
+  omega (arith, frame_past _ _ _ _ c.before.before.before.loop.invariant.2 c.before.before.good_end.ensures.0 c.before.if1.false),
   omega arith,
-  frame_on _ _ _ _ c.before.before.before.loop.invariant.2 c.before.before.good_end_lem.ensures.0 c.before.if1.false c.if2.false (omega arith) (omega arith),
+  frame_on _ _ _ _ c.before.before.before.loop.invariant.2 c.before.before.good_end.ensures.0 c.before.if1.false c.if2.false (omega arith) (omega arith),
 )
 
 pub frame-spec : {M : Type 1} → statement M

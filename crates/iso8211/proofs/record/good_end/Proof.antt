@@ -9,10 +9,10 @@ leader-good-requires : tie.Need-leader-good-requires
 leader-good-requires c κs = search rules
 
 returns : tie.Need-returns
-returns c = (end_led _ _ _ _ c.before.leader_good_lem.ensures c.if1.true, omega arith)
+returns c = (end_led _ _ _ _ c.before.leader_good.ensures c.if1.true, omega arith)
 
 get-digits-requires : tie.Need-get-digits-requires
-get-digits-requires c κs = let l = led _ _ _ _ c.before.leader_good_lem.ensures c.if1.false in omega arith
+get-digits-requires c κs = let l = led _ _ _ _ c.before.leader_good.ensures c.if1.false in omega arith
 
 cast-size : tie.Need-overflow-cast-size
 cast-size c = search rules
@@ -21,7 +21,7 @@ add-get-digits : tie.Need-overflow-add-get-digits
 add-get-digits c = search rules
 
 get-digits-requires-2 : tie.Need-get-digits-requires-2
-get-digits-requires-2 c κs = let l = led _ _ _ _ c.before.before.leader_good_lem.ensures c.before.if1.false in omega arith
+get-digits-requires-2 c κs = let l = led _ _ _ _ c.before.before.leader_good.ensures c.before.if1.false in omega arith
 
 cast-base : tie.Need-overflow-cast-base
 cast-base c = search rules
@@ -30,20 +30,20 @@ add-digit-at : tie.Need-overflow-add-digit-at
 add-digit-at c = search rules
 
 digit-at-requires : tie.Need-digit-at-requires
-digit-at-requires c κs = let l = led _ _ _ _ c.before.before.before.leader_good_lem.ensures c.before.before.if1.false in omega arith
+digit-at-requires c κs = let l = led _ _ _ _ c.before.before.before.leader_good.ensures c.before.before.if1.false in omega arith
 
 add-digit-at-2 : tie.Need-overflow-add-digit-at-2
 add-digit-at-2 c = search rules
 
 digit-at-requires-2 : tie.Need-digit-at-requires-2
-digit-at-requires-2 c κs = let l = led _ _ _ _ c.before.before.before.before.leader_good_lem.ensures c.before.before.before.if1.false in omega arith
+digit-at-requires-2 c κs = let l = led _ _ _ _ c.before.before.before.before.leader_good.ensures c.before.before.before.if1.false in omega arith
 
 body-good-requires : tie.Need-body-good-requires
 body-good-requires c κs = search rules
 
 returns-2 : tie.Need-returns-2
 returns-2 c = (
-  end_body _ _ _ _ _ _ _ _ _ c.before.before.before.before.before.before.before.leader_good_lem.ensures
+  end_body _ _ _ _ _ _ _ _ _ c.before.before.before.before.before.before.before.leader_good.ensures
       c.before.before.before.before.before.before.if1.false c.before.before.before.before.before.get-digits.ensures.is
       c.before.before.before.before.get-digits2.ensures.is c.before.before.before.digit_at.ensures.0 c.before.before.digit-at2.ensures.0
       c.before.body-good.ensures c.if2.true,
@@ -55,7 +55,7 @@ add-result c = search rules
 
 returns-3 : tie.Need-returns-3
 returns-3 c = (
-  end_good_lem _ _ _ _ _ _ _ _ _ c.before.before.before.before.before.before.before.leader_good_lem.ensures
+  end_good_lem _ _ _ _ _ _ _ _ _ c.before.before.before.before.before.before.before.leader_good.ensures
       c.before.before.before.before.before.before.if1.false c.before.before.before.before.before.get-digits.ensures.is
       c.before.before.before.before.get-digits2.ensures.is c.before.before.before.digit_at.ensures.0 c.before.before.digit-at2.ensures.0
       c.before.body-good.ensures c.if2.false,

@@ -15,7 +15,7 @@ start-at-requires c κs = search rules
 cell-fault-from-requires : tie.Need-cell-fault-from-requires
 cell-fault-from-requires c κs =
     let lent = c.before.before.before.before.before.requires in
-    (lent, read_first false _ _ _ _ (last_ends _ _ lent.framed).0 c.before.before.record-end.ensures.0 c.before.start_at_lem.ensures)
+    (lent, read_first false _ _ _ _ (last_ends _ _ lent.framed).0 c.before.before.record-end.ensures.0 c.before.start_at.ensures)
 
 same_length : tie.Need-same-length
 same_length c = search rules

@@ -55,7 +55,7 @@ returns-3 : tie.Need-returns-3
 returns-3 c = (
   cell_counts _ _ _ c.before.before.before.before.before.before.before.before.before.before.read-fault-from.ensures
       c.before.before.before.before.before.before.before.before.before.if1.false _ c.before.before.before.before.before.before.before.repeated.ensures.0
-      c.before.before.before.before.if2.false _ c.before.before.before.counts_good_lem.ensures _ _ c.before.before.if3.true c.before.record-end.ensures.0
+      c.before.before.before.before.if2.false _ c.before.before.before.counts_good.ensures _ _ c.before.before.if3.true c.before.record-end.ensures.0
       c.refuse2.ensures,
   held_refused _ 7 _ _ c.refuse2.ensures,
 )
@@ -70,7 +70,7 @@ returns-4 : tie.Need-returns-4
 returns-4 c = (
   cell_fine _ _ _ c.before.before.before.before.before.before.before.before.before.read-fault-from.ensures
       c.before.before.before.before.before.before.before.before.if1.false _ c.before.before.before.before.before.before.repeated.ensures.0
-      c.before.before.before.if2.false _ c.before.before.counts_good_lem.ensures _ c.before.if3.false c.refuse3.ensures,
+      c.before.before.before.if2.false _ c.before.before.counts_good.ensures _ c.before.if3.false c.refuse3.ensures,
   λ z. held_words c.before.before.before.before.before.before.repeated.ensures.1,
 )
 

@@ -24,18 +24,18 @@ answered-requires : tie.Need-answered-requires invariant-loop decreases-loop
 answered-requires c κs = search rules
 
 returns : tie.Need-returns invariant-loop decreases-loop
-returns c = opened_broken c.before.before.before.before.loop.invariant c.before.before.before.loop-test.true _ c.before.before.good_end_lem.ensures.0 _ _
+returns c = opened_broken c.before.before.before.before.loop.invariant c.before.before.before.loop-test.true _ c.before.before.good_end.ensures.0 _ _
     c.before.before.before.before.before.before.requires.1 c.before.if1.true c.answered.ensures
 
 add-k : tie.Need-overflow-add-k invariant-loop decreases-loop
 add-k c = let below = c.before.before.before.loop.invariant.below in let fits = c.before.before.before.loop.invariant.fits in omega arith
 
 loop-less : tie.Need-loop-smaller invariant-loop decreases-loop
-loop-less c = omega (arith, opened_past c.before.before.before.loop.invariant c.before.before.loop-test.true _ c.before.good_end_lem.ensures.0 c.if1.false)
+loop-less c = omega (arith, opened_past c.before.before.before.loop.invariant c.before.before.loop-test.true _ c.before.good_end.ensures.0 c.if1.false)
 
 loop-again : tie.Need-loop-preserved invariant-loop decreases-loop
-loop-again c = opened_next c.before.before.before.loop.invariant c.before.before.loop-test.true _ c.before.good_end_lem.ensures.0 c.if1.false
-    c.before.good_end_lem.ensures.1
+loop-again c = opened_next c.before.before.before.loop.invariant c.before.before.loop-test.true _ c.before.good_end.ensures.0 c.if1.false
+    c.before.good_end.ensures.1
 
 returns-2 : tie.Need-returns-2 invariant-loop decreases-loop
 returns-2 c = opened_all _ c.before.loop.invariant c.loop-test.false c.before.before.before.requires.1

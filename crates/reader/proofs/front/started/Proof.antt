@@ -17,10 +17,10 @@ answered-requires-2 : tie.Need-answered-requires-2
 answered-requires-2 c κs = search rules
 
 returns-2 : tie.Need-returns-2
-returns-2 c = start_broken _ _ c.before.before.before.if1.false _ c.before.before.good_end_lem.ensures.0 _ c.before.if2.true c.answered2.ensures
+returns-2 c = start_broken _ _ c.before.before.before.if1.false _ c.before.before.good_end.ensures.0 _ c.before.if2.true c.answered2.ensures
 
 returns-3 : tie.Need-returns-3
-returns-3 c = start_found _ _ c.before.before.if1.false _ c.before.good_end_lem.ensures.0 c.if2.false
+returns-3 c = start_found _ _ c.before.before.if1.false _ c.before.good_end.ensures.0 c.if2.false
 
 pub started-spec : {M : Type 1} → statement M
 started-spec =

@@ -18,7 +18,7 @@ found-requires : tie.Need-found-requires
 found-requires c κs = search rules
 
 returns : tie.Need-returns
-returns c = file_not _ _ c.before.before.before.before.before.before.before.before.requires c.before.before.start_at_lem.ensures c.found.ensures
+returns c = file_not _ _ c.before.before.before.before.before.before.before.before.requires c.before.before.start_at.ensures c.found.ensures
 
 blank-requires : tie.Need-blank-requires
 blank-requires c κs = search rules

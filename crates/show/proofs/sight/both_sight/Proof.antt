@@ -37,17 +37,17 @@ cell-sight-requires c κs = search rules
 
 returns : tie.Need-returns
 returns c =
-    update_absent c.before.before.before.before.before.before.before.requires _ _ _ c.before.before.before.place_named_lem.ensures (search rules)
+    update_absent c.before.before.before.before.before.before.before.requires _ _ _ c.before.before.before.place_named.ensures (search rules)
     (λ i. omega (arith, c.before.before.before.before.before.shared-slice-known2.given i)) _ (search rules) c.cell-sight.ensures
 
 span-of-requires : tie.Need-span-of-requires
 span-of-requires c κs =
-    update_framed c.before.before.before.before.before.before.before.requires _ _ _ c.before.before.before.place_named_lem.ensures (search rules)
+    update_framed c.before.before.before.before.before.before.before.requires _ _ _ c.before.before.before.place_named.ensures (search rules)
     (λ i. omega (arith, c.before.before.before.before.before.shared-slice-known2.given i)) _ (search rules)
 
 returns-2 : tie.Need-returns-2
 returns-2 c =
-    update_shown c.before.before.before.before.before.before.before.before.requires _ _ _ c.before.before.before.before.place_named_lem.ensures (search rules)
+    update_shown c.before.before.before.before.before.before.before.before.requires _ _ _ c.before.before.before.before.place_named.ensures (search rules)
     (λ i. omega (arith, c.before.before.before.before.before.before.shared-slice-known2.given i)) _ _ (search rules) c.Span-of.ensures
 
 pub both-sight-spec : {M : Type 1} → statement M

@@ -22,17 +22,17 @@ answered-requires c κs = search rules
 
 returns : tie.Need-returns
 returns c =
-    cell_absent c.before.before.before.before.before.before.requires _ _ _ c.before.before.before.place_named_lem.ensures (search rules)
+    cell_absent c.before.before.before.before.before.before.requires _ _ _ c.before.before.before.place_named.ensures (search rules)
     (λ i. omega (arith, c.before.before.before.before.before.shared-slice-known.given i)) _ (search rules) c.answered.ensures
 
 span-of-requires : tie.Need-span-of-requires
 span-of-requires c κs =
-    cell_framed c.before.before.before.before.before.before.requires _ _ _ c.before.before.before.place_named_lem.ensures (search rules)
+    cell_framed c.before.before.before.before.before.before.requires _ _ _ c.before.before.before.place_named.ensures (search rules)
     (λ i. omega (arith, c.before.before.before.before.before.shared-slice-known.given i)) _ (search rules)
 
 returns-2 : tie.Need-returns-2
 returns-2 c =
-    cell_shown c.before.before.before.before.before.before.before.requires _ _ _ c.before.before.before.before.place_named_lem.ensures (search rules)
+    cell_shown c.before.before.before.before.before.before.before.requires _ _ _ c.before.before.before.before.place_named.ensures (search rules)
     (λ i. omega (arith, c.before.before.before.before.before.before.shared-slice-known.given i)) _ _ (search rules) c.Span-of.ensures
 
 pub cell-sight-spec : {M : Type 1} → statement M
