@@ -34,12 +34,12 @@ module _ (stage : ℕ) (marks : List ℕ) (aall nall : ℕ) (s : List ℕ) (at :
   of_vector : kind_in o.two ≡ VRID → GoodAmendment aall nall (amendment_at s at)
   of_vector vrid =
       let v = vector_read true stage marks aall nall s at small o vrid in
-      record { known = ruin_known (ruin_at s at) v.ruin_good; body = brought_vector v.item }
+      record { known = ruin_known (ruin_at s at) v.ruin_is_good; body = brought_vector v.item }
 
   of_feature_lem : kind_in o.two ≡ FRID → GoodAmendment aall nall (amendment_at s at)
   of_feature_lem frid =
       let f = feature_read true stage marks aall nall s at small o frid in
-      record { known = ruin_known (ruin_at s at) f.ruin_good; body = brought_feature f.item }
+      record { known = ruin_known (ruin_at s at) f.ruin_is_good; body = brought_feature f.item }
 
   pub opened_good : 2 ≤ stage → stage ≤ 3 → GoodAmendment aall nall (amendment_at s at)
   opened_good low high =

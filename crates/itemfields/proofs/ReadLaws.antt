@@ -277,11 +277,11 @@ foided update stage marks aall nall seen (f ∷ fs) laid valued =
 -- a vector, and a feature, of a record with this RUIN
 pub record VectorRead (update : Bool) (aall nall ruin : ℕ) (t : Item) : Type 0 where
   pub item : Vector update aall nall t
-  pub ruin_good_lem : ruin_good update ruin ≡ true
+  pub ruin_is_good : ruin_good update ruin ≡ true
 
 pub record FeatureRead (update : Bool) (aall nall ruin : ℕ) (t : Item) : Type 0 where
   pub item : Feature update aall nall t
-  pub ruin_good_lem : ruin_good update ruin ≡ true
+  pub ruin_is_good : ruin_good update ruin ≡ true
 
 module _ (update : Bool) (stage : ℕ) (marks : List ℕ) (aall nall : ℕ) (s : List ℕ) (at : ℕ) (small : (i : ℕ) → byte_at s i < 256)
     (o : Opened update stage marks aall nall (pieces_at s at)) where
@@ -322,7 +322,7 @@ module _ (update : Bool) (stage : ℕ) (marks : List ℕ) (aall nall : ℕ) (s :
               (λ (e : list_in SG3D o.rest ≡ []). inr (empty_list s at SG3D fs o.rest is (head SG3D) e))
               (rivals update stage marks VRID SG2D SG3D o.rest refl (λ e. omega arith) (omega arith) laid);
         };
-        ruin_good_lem = rw (ne, ru) g.ruin;
+        ruin_is_good = rw (ne, ru) g.ruin;
       }
 
   pub feature_read : kind_in o.two ≡ FRID → FeatureRead update aall nall (ruin_at s at) (item_at s at)
@@ -371,7 +371,7 @@ module _ (update : Bool) (stage : ℕ) (marks : List ℕ) (aall nall : ℕ) (s :
           lists = lists_told update stage marks aall nall FOID feature_kinds _ s at fs ob.rest is head (omega arith) refl feature_kinds_lem
               (λ k i. of_four ATTF NATF FFPT FSPT k attf natf ffpt fspt i) (rw ob.kind at ob.laid) (rw ob.kind at ob.valued);
         };
-        ruin_good_lem = rw (yes100, ru) g.ruin;
+        ruin_is_good = rw (yes100, ru) g.ruin;
       }
 
 -- ---- those of a cell
