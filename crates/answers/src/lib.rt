@@ -1,6 +1,8 @@
 // What the loader answers: document 01's codes and limits, each once; a refusal of a file, an answer of a
 // call, and its 16 bytes; and the order of refusals, in which the first that finds something answers. It
 // stands on `octets` alone; every crate that refuses takes its words from here.
+#![tactic(auto)]
+
 pub mod answer;
 pub mod codes;
 pub mod refusal;

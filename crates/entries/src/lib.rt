@@ -2,6 +2,8 @@
 // list kinds, and single fields of one such shape, and promises the crates above where each entry
 // starts and ends, how many there are, and that they fill the field. Of `octets` it takes numbers
 // in bytes.
+#![tactic(auto)]
+
 ghost use Rattle.std.specs.Prelude.{◌+◌, ◌-◌, ◌≤◌, ◌≡◌, length, drop, eqb};
 ghost use Rattle.entries.specs.Entries.{unit_of, text_len, entry_len, extent_of, whole_good};
 ghost use Rattle.entries.specs.Premises.{Sound, place};
@@ -10,7 +12,7 @@ use octets::number::{get2, wide};
 
 // How an entry looks: fixed bytes, then a text of units of `unit` bytes up to the unit 1F. Where
 // `unit` is 0 there is no text.
-#[derive(Drop)]
+#[derive(Clone, Copy)]
 pub struct Shape {
     pub fixed: usize,
     pub unit: usize,

@@ -104,4 +104,4 @@ end_read {s} {i} high (b ∷ t) good h =
     let byte : byte_at s i ≡ b = has_head h in
     let other : byte_at s i ≡ 31 → ⊥ = λ (e : byte_at s i ≡ 31). no_end high b g.0 (sym byte ∙ e) in
     let room = h.room in
-    end_on s i i refl (omega arith) other ∙ end_read high t g.1 (has_tail h) ∙ omega arith
+    end_on s i i refl (omega arith) other ∙ end_read {i = i + 1} high t g.1 (has_tail h) ∙ omega arith

@@ -1,5 +1,7 @@
 // Document 01's rules under "Values" for the header: `dssi_fault` and `dspm_fault`, and what a text may hold.
 // DSID has a crate of its own. It takes the rule of one number from `values`.
+#![tactic(auto)]
+
 pub mod dspm;
 pub mod dssi;
 pub mod text;

@@ -141,7 +141,7 @@ digits_read {s} {i} (suc w) v led h =
     let pos : 0 < P = one-le-pow w 10 (omega arith) in
     let d = v / P % 10 in
     let byte : byte_at s i ≡ 48 + d = has_head h in
-    let rest = digits_read w v (led * 10 + d) (has_tail h) in
+    let rest = digits_read {i = i + 1} w v (led * 10 + d) (has_tail h) in
     let is : is_digit (48 + d) ≡ true = digit_yes (48 + d) (omega arith) (omega arith) in
     let less : 48 + d - 48 ≡ d = omega arith in
     rw (byte, is, less, rest, pow-suc 10 w, ten_up P v pos, add-mul (led * 10) d P, mul_comm P 10, ← mul_assoc led 10 P) (omega arith)

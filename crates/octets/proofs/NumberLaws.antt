@@ -74,7 +74,7 @@ unfolding num_at bytes_of
 num_read zero v small h = omega arith
 num_read {s} {i} (suc n) v small h =
     let top : v / 256 < 256 ^ n = (div-lt_iff_lt-mul {k = 256} {x = v} {y = 256 ^ n} (omega arith)).1 (rw (pow-suc 256 n) at small) in
-    let rest : num_at s (i + 1) n ≡ v / 256 = num_read n (v / 256) top (has_tail h) in
+    let rest : num_at s (i + 1) n ≡ v / 256 = num_read {i = i + 1} n (v / 256) top (has_tail h) in
     rw (has_head h, ← add-one i, rest) (mod-add-div v 256)
 
 -- two halves written one after the other

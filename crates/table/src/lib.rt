@@ -1,5 +1,7 @@
 // Document 01's table of fields, once: tags, formats, labels, shapes of entries and places. It
 // promises what a tag means and what a field of each kind is made of.
+#![tactic(auto)]
+
 ghost use Rattle.std.specs.Prelude.{◌≡◌, ◌<◌, length};
 ghost use Rattle.table.specs.Table.{kind_of, kind_row, first, kind_count};
 ghost use Rattle.table.specs.Premises.{Picked};

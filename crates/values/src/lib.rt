@@ -2,6 +2,8 @@
 // without its closing 1E, whose subfields were found to fill it, and the rule of one number. A fault is 0
 // where every rule holds, else one more than the place of the first byte of the first subfield that is
 // wrong. The header's fields have crates of their own. Below it stands `octets`.
+#![tactic(auto)]
+
 pub mod class;
 pub mod fault;
 pub mod frid;

@@ -1,0 +1,12 @@
+use Rattle.entries.proofs.WalkLaws.{place_there, place_out, place_on}
+use Rattle.std.proofs.Common.{rules}
+use Rattle.entries.proofs.place_of.Goals as goal
+
+pub returns-then-n-eq0 : goal.returns-then-n-eq0
+returns-then-n-eq0 c = search (rules, place_out)
+
+pub loop-left-preserved : goal.loop-left-preserved
+loop-left-preserved c = (search rules, search (rules, place_on))
+
+pub returns : goal.returns
+returns c = search (rules, place_there)

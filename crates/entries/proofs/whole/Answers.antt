@@ -1,0 +1,10 @@
+-- The two tests of the definition, on what the walk counted.
+use Rattle.entries.proofs.EntriesLaws.{good_none, good_end_lem}
+use Rattle.std.proofs.Common.{rules}
+use Rattle.entries.proofs.whole.Goals as goal
+
+pub returns-then-count-lt1 : goal.returns-then-count-lt1
+returns-then-count-lt1 c = search (rules, good_none)
+
+pub returns : goal.returns
+returns c = search (rules, good_end_lem)
