@@ -1,7 +1,7 @@
 #!/bin/sh
 # Builds the programs of bench/ against static archives of the proved code.
 # usage: bench/build.sh [ARCHIVE]
-# ARCHIVE: default target/staticlib/libprobe.a at the repository's top, as `rt staticlib probe` writes it; an archive of another crate
+# ARCHIVE: default target/staticlib/libprobe.a at the repository's top, as `bench/archives.sh probe` writes it; an archive of another crate
 # is looked for beside it. The programs go to $BENCH_OUT, default target/bench at the repository's top; bench/run.sh runs them.
 set -eu
 

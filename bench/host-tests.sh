@@ -22,13 +22,13 @@ export BENCH_OUT=$PWD/target/bench
 rm -rf "$BENCH_OUT" "$archives" target/host
 mkdir -p "$BENCH_OUT"
 for crate in probe s57; do
-    if ! rt staticlib "$crate" || [ ! -f "$archives/lib$crate.a" ]; then
-        fault "rt staticlib $crate made no $archives/lib$crate.a"
+    if ! bench/archives.sh "$crate" || [ ! -f "$archives/lib$crate.a" ]; then
+        fault "bench/archives.sh $crate made no $archives/lib$crate.a"
     fi
 done
 # the program that compare_listing runs; after rt ci it is there, and nothing is proved again
-if ! rt check listing || [ ! -x target/bin/listing ]; then
-    fault 'rt check listing made no target/bin/listing'
+if ! bench/archives.sh listing || [ ! -x target/bin/listing ]; then
+    fault 'bench/archives.sh listing made no target/bin/listing'
 fi
 bench/build.sh "$archives/libprobe.a" || fault 'bench/build.sh could not build every program'
 

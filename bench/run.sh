@@ -15,10 +15,7 @@ case "$name $* " in
 'compare_listing '*)
     listing=$top/target/bin/listing
     [ -x "$listing" ] || { echo "bench/run.sh: no $listing" >&2; exit 2; }
-    tools=$(dirname "$(dirname "$(rt doc)")")/on/$(uname -m)/toolchain
-    emulator=$tools/bin/qemu-x86_64
-    [ -x "$emulator" ] || emulator=
-    set -- "$@" -- ${emulator:+"$emulator"} "$tools/lib/ld-linux-x86-64.so.2" --library-path "$tools/lib" "$listing" ;;
+    set -- "$@" -- "$listing" ;;
 esac
 # replay without inputs replays those that are kept
 [ "$name $#" != 'replay 0' ] || set -- --all "$top"/bench/fuzz/corpus/*

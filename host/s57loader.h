@@ -1,4 +1,4 @@
-/* The chart loader, for C and C++. Link with the archive of the crate `s57`, target/staticlib/libs57.a, which `rt staticlib s57` makes: x86-64
+/* The chart loader, for C and C++. Link with the archive of the crate `s57`, target/staticlib/libs57.a, which `bench/archives.sh s57` makes: x86-64
    code, and of the C library it wants memcpy and memset alone. judge.c beside this file is a host of one page; unit.c is one that keeps a chart up to
    date.
 

@@ -3,7 +3,7 @@
 # usage: bench/fuzz/run.sh SECONDS [keep]
 # SECONDS: by the clock; 0 fuzzes nothing and only looks at the corpus. `keep` puts the smallest inputs that go everywhere the run went in the place of those of
 # bench/fuzz/corpus; one that showed a fault once is named *-fault there and stays.
-# On x86-64 it wants target/staticlib/libs57.a and libprobe.a, as `rt staticlib` writes them, and breakpoints show where they go (watch.h). On Arm, where those don't
+# On x86-64 it wants target/staticlib/libs57.a and libprobe.a, as `bench/archives.sh` writes them, and breakpoints show where they go (watch.h). On Arm, where those don't
 # run, it has the toolchain make them again and compiles the modules that they are made of for this very machine (bench/module.sh), so that the fuzzer sees where
 # they go as it does of the readers; that wants the crates proved.
 # Everything goes to target/fuzz; found/ there stays from run to run, and the next run begins with it. An input that makes a side differ ends the run with 1, and is

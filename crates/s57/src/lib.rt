@@ -1,7 +1,7 @@
 // The calls for a host program in C, on numbers and byte slices: the code is returned, and an answer
-// area of exactly 16 bytes is filled. Judge and Admit come from `loader`, Apply from `apply`. Every call
-// accepts all bytes and all areas; the work area is zero afterwards, and after a refusal the output is
-// as it was. The archive of this crate is what a host links.
+// area of exactly 16 bytes is filled. Judge comes from `judging`, Admit from `loader`, Apply from
+// `apply`. Every call accepts all bytes and all areas; the work area is zero afterwards, and after a
+// refusal the output is as it was. The archive of this crate is what a host links.
 ghost use Rattle.s57.specs.Returned.{Judged, Admitted, Applied};
 
 use answers::sixteen::put_answer;
@@ -13,18 +13,18 @@ use loader::admit::admit;
 pub extern "C" fn s57_judge(cell: &[u8], work: &mut [u8], answer: &mut [u8]) -> u32
     ensures { Judged cell.now work.old answer.old answer.new work.new result }
 {
-    let a = judge(cell, work);
-    put_answer(a, answer);
-    a.code
+    let judged = judge(cell, work);
+    put_answer(judged, answer);
+    judged.code
 }
 
 #[unsafe(no_mangle)]
 pub extern "C" fn s57_admit(cell: &[u8], out: &mut [u8], work: &mut [u8], answer: &mut [u8]) -> u32
     ensures { Admitted cell.now out.old work.old answer.old out.new answer.new work.new result }
 {
-    let a = admit(cell, out, work);
-    put_answer(a, answer);
-    a.code
+    let admitted = admit(cell, out, work);
+    put_answer(admitted, answer);
+    admitted.code
 }
 
 #[unsafe(no_mangle)]
@@ -38,7 +38,7 @@ pub extern "C" fn s57_apply(
     ensures { Applied cell.now update.now out.old work.old answer.old out.new answer.new
         work.new result }
 {
-    let a = apply(cell, update, out, work);
-    put_answer(a, answer);
-    a.code
+    let applied = apply(cell, update, out, work);
+    put_answer(applied, answer);
+    applied.code
 }

@@ -21,7 +21,9 @@ same-length-3 : tie.Need-same-length-3
 same-length-3 c = search rules
 
 returns : tie.Need-returns
-returns c = record { code = search (rules, told_code); area = search (rules, told_area); output = search rules; zero = search rules }
+returns c =
+    let call = c.before.before.before.before.before.before.before.before.apply.ensures in
+    record { code = told_code _ _ call.0; area = told_area _ _ _ _ call.0 c.before.before.put-answer.ensures; output = call.1.0; zero = call.1.1 }
 
 pub s57-apply-spec : {M : Type 1} → statement M
 s57-apply-spec =

@@ -18,7 +18,9 @@ same-length-2 : tie.Need-same-length-2
 same-length-2 c = search rules
 
 returns : tie.Need-returns
-returns c = record { code = search (rules, told_code); area = search (rules, told_area); zero = search rules }
+returns c =
+    let call = c.before.before.before.before.before.before.judge.ensures in
+    record { code = told_code _ _ call.0; area = told_area _ _ _ _ call.0 c.before.before.put-answer.ensures; zero = call.1 }
 
 pub s57-judge-spec : {M : Type 1} → statement M
 s57-judge-spec =
