@@ -2,6 +2,8 @@
 // one field without its closing 1E. Promised to the crates above: the first wrong subfield, and which
 // labels the list has met, so that a list may go on in a further field. Taken from `entries`: where
 // each entry ends; from `headvalues`: which bytes are text.
+#![tactic(auto)]
+
 ghost use Rattle.std.specs.Prelude.{◌+◌, ◌≤◌, ◌<◌, false, ◌≡◌, length, take, drop};
 ghost use Rattle.entries.specs.Premises.{Whole};
 ghost use Rattle.headvalues.specs.Text.{text_good};

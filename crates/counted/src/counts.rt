@@ -16,7 +16,7 @@ use table::offsets;
 use values::class::{is_collection, is_geo, is_meta};
 
 // How many records of each kind that DSSI counts.
-#[derive(Drop)]
+#[derive(Clone, Copy)]
 pub struct Tally {
     pub meta: u32,
     pub geo: u32,

@@ -1,5 +1,7 @@
 // The counts that DSSI gives against those of the records (`counts_good`), and how a record is counted
 // (`add_vector`, `add_feature`).
+#![tactic(auto)]
+
 pub mod counts;
 
 // The tally with a vector of this RCNM.

@@ -1,6 +1,8 @@
 // Document 01's rules under "Values" for DSID, on its lent field without the closing 1E: whether its
 // subfields fill it, where its texts end, and the first subfield that is wrong; and dates. It takes rules
 // and text from `values`.
+#![tactic(auto)]
+
 ghost use Rattle.std.specs.Prelude.{◌+◌, ◌≤◌, ◌≡◌, length};
 ghost use Rattle.dataset.specs.Dsid.{dsid_ends, dsid_laid, is_code, codes_at, extension_good, dsnm_good, updn_good, uadt_good, sted_good, pred_good, head_fault, names_fault};
 ghost use Rattle.dataset.specs.Dsid.{issue_fault, product_fault, dsid_fault};
@@ -15,7 +17,7 @@ use values::fault::{fault_at, first};
 use values::rule::{digits_within, profile, rcid_good, within};
 
 // Where the six texts of a DSID end, each at its 1F.
-#[derive(Drop)]
+#[derive(Clone, Copy)]
 pub struct Ends {
     pub dsnm: usize,
     pub edtn: usize,

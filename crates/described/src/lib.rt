@@ -1,6 +1,8 @@
 // Document 01's rule of record 0: `described` says which kinds of fields a file declares, each as the table
 // has it, or that the rule is broken. It takes records and fields from `iso8211`, and each field against
 // the table from `declarations`.
+#![tactic(auto)]
+
 ghost use Rattle.std.specs.Prelude.{◌≡◌, ◌-◌, length};
 ghost use Rattle.table.specs.Table.{kind_count};
 ghost use Rattle.iso8211.specs.Field.{count_at};

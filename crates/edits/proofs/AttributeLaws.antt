@@ -146,4 +146,4 @@ module _ (label : List ℕ → ℕ) (removes : List ℕ → Bool) {sh : Shape} w
   pub changes_each : {held brought : List (List ℕ)} → Each sh held → Each sh brought → Each sh (changes label removes held brought)
   unfolding changes
   changes_each h each_none = h
-  changes_each h (each_more w more) = changes_each (each_change w h) more
+  changes_each {held = held} h (each_more {e = e} w more) = changes_each {held = change label removes e held} (each_change w h) more

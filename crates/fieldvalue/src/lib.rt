@@ -1,5 +1,7 @@
 // The values of one field, whatever its kind: `value_fault`. It takes each rule from `values`, `headvalues`,
 // `dataset` and `attributes`.
+#![tactic(auto)]
+
 pub mod value;
 
 // The fault of a field that is no list of attributes.

@@ -1,5 +1,7 @@
 // The format list of a field of record 0, written out: brackets opened, counts carried out, and the
 // comparison of two such lists. It takes bytes and digits from `octets` and knows nothing of charts.
+#![tactic(auto)]
+
 ghost use Rattle.std.specs.Prelude.{◌+◌, ◌*◌, ◌≤◌, ◌<◌, ◌≡◌, ◌++◌, length, take};
 ghost use Rattle.fieldparts.specs.Same.{same_list};
 ghost use Rattle.formats.specs.Formats.{short_at, count_at, is_letter, counts, sized_at, binary_at, primitive_at, form, single, repeated, joined, item_at, list_at, written_at};
@@ -16,7 +18,7 @@ pub struct Taken {
 
 // The primitives of a format list, written out, and the index past its closing bracket. The items
 // beyond `count` are 0; `end` 0: there is no good list.
-#[derive(Drop)]
+#[derive(Clone, Copy)]
 pub struct Formats {
     pub items: [u32; 32],
     pub count: usize,

@@ -2,6 +2,8 @@
 // record with its index, offset and length, then the tag and the length of each field, parted by
 // tabs. A broken file answers only `broken` and the index of the first bad record, a longer one only
 // `too long`. It takes records and fields from `iso8211`.
+#![tactic(auto)]
+
 ghost use Rattle.std.specs.Prelude.{◌≤◌, ◌≡◌};
 ghost use Rattle.iso8211.specs.Premises.{FramedAt};
 ghost use Rattle.iso8211.specs.File.{frame_of};

@@ -1,6 +1,8 @@
 // The records in front of the vectors and features, as the held form has them: record 0, and the
 // fields DSID and DSSI. It takes where the texts of DSID end from `dataset` and the counts of DSSI
 // from `counted`, and writes into a lent area; the crates above put the fields into their records.
+#![tactic(auto)]
+
 pub mod dsid;
 pub mod dssi;
 pub mod first;

@@ -11,7 +11,7 @@ use octets::digits::sure_digits;
 use octets::widths::sure_at;
 
 // The numbers of a leader that reading a field takes.
-#[derive(Drop)]
+#[derive(Clone, Copy)]
 pub struct Head {
     pub base: usize,
     pub lengths: usize,
@@ -20,7 +20,7 @@ pub struct Head {
 }
 
 // A field: its tag's four bytes as a number, where it starts in the file, its length with its 1E.
-#[derive(Drop)]
+#[derive(Clone, Copy)]
 pub struct Field {
     pub tag: u32,
     pub start: usize,

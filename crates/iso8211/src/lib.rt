@@ -1,6 +1,8 @@
 // ISO/IEC 8211 framing: records and fields. It knows nothing of charts. It promises to the crates above:
 // `frame` answers how many good records a file has, or which is the first bad one; and of a framed file
 // where each record starts and ends and which fields it has. It takes bytes and digits from `octets`.
+#![tactic(auto)]
+
 pub mod directory;
 pub mod field;
 pub mod file;

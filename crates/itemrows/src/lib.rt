@@ -1,6 +1,8 @@
 // The directory of an item's record in held form. It promises to the crates above: `list_rows`, the rows of
 // the lists from their sizes alone; `vector_rows`, `feature_rows` and `put_lead`, what stands before
 // lists; `is_plain` and `rows_of`, whether a record stands as in held form already, and its rows.
+#![tactic(auto)]
+
 pub mod lead;
 pub mod plain;
 pub mod rows;

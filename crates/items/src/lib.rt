@@ -3,6 +3,8 @@
 // promises the crates above the one step through a list, its count, and these numbers; it takes
 // fields from `iso8211`, entries from `entries`, kinds from `table` and laid-out records from
 // `layout`.
+#![tactic(auto)]
+
 pub mod count;
 pub mod cursor;
 pub mod identity;

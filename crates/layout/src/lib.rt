@@ -4,6 +4,8 @@
 // fields from `table`, lists from `entries`, and the two fields of several texts from `dataset` (DSID)
 // and `headvalues` (DSPM). `general` reads the general records: the levels (`levels_at`), COMF
 // (`comf_of`).
+#![tactic(auto)]
+
 pub mod fill;
 pub mod general;
 pub mod place;

@@ -1,5 +1,7 @@
 // The look-up of a name or a word among the sorted words of the work area: `lookup`, `index_of`,
 // `has_word`; and `index_near`, `has_near`, which promise the same and try a guess first.
+#![tactic(auto)]
+
 pub mod lookup;
 pub mod starts;
 

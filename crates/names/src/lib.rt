@@ -1,6 +1,8 @@
 // The names of a file's vectors and features: their words in a lent area, in held order, and the first
 // name that is met twice. It takes records from `iso8211`, names and their words from `items`, and the
 // sort of words from `words`.
+#![tactic(auto)]
+
 pub mod collect;
 pub mod order;
 pub mod twice;

@@ -1,6 +1,8 @@
 // Document 01's Pointer of one item, code 18: whether every name that it points to is held by a
 // record, and every LNAM is the FOID of a feature. It takes the lists from `items` and the look-up
 // among the words of the work area from `lookups`.
+#![tactic(auto)]
+
 ghost use Rattle.std.specs.Prelude.{◌+◌, ◌-◌, ◌≤◌, ◌≡◌};
 ghost use Rattle.iso8211.specs.Premises.{HeadOf};
 ghost use Rattle.table.specs.Table.{row_of, FFPT};

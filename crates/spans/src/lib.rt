@@ -3,6 +3,8 @@
 // is all there is, and `spans_of` and `two_spans_of`, from where to where the bytes of each list stand, if
 // it stands in one field. It takes fields from `iso8211` and records that are laid out from `items`. Lists
 // in several fields are left to the cursors of `items`.
+#![tactic(auto)]
+
 ghost use Rattle.std.specs.Prelude.{◌+◌, ◌≤◌, ◌≡◌, length};
 ghost use Rattle.iso8211.specs.Premises.{HeadOf};
 ghost use Rattle.items.specs.Premises.{LaidOut, Identified};
@@ -14,7 +16,7 @@ use table::tags;
 
 // The bytes of a list: from `from` up to `to` of the file. Where `to` is before `from`, the list
 // stands in several fields.
-#[derive(Drop)]
+#[derive(Clone, Copy)]
 pub struct Span {
     pub from: usize,
     pub to: usize,

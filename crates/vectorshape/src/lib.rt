@@ -1,4 +1,6 @@
 // Whether a vector has the shape of its class: its coordinates within COMF's limits, an edge's ends.
+#![tactic(auto)]
+
 pub mod coordinate;
 pub mod vector;
 

@@ -1,0 +1,11 @@
+-- By the kind of file.
+use Rattle.dataset.specs.Dsid.{uadt_good}
+use Rattle.dataset.proofs.uadt_good.Goals as goal
+
+pub returns-then-update : goal.returns-then-update
+unfolding uadt_good
+returns-then-update c = cc
+
+pub returns : goal.returns
+unfolding uadt_good
+returns c = cc

@@ -1,0 +1,14 @@
+-- The rule of all entries is the rule of those left.
+use Rattle.std.proofs.Common.{◌≡◌, length}
+use Rattle.entries.specs.Rules.{all_of}
+use Rattle.items.specs.Lists.{entries_at}
+use Rattle.items.specs.Cursors.{left, CursorIn}
+use Rattle.vectorshape.specs.Shape.{end_good}
+use Rattle.table.specs.Table.{VRPT}
+use Rattle.vectorshape.proofs.vector.ends_good.Given as goal
+
+abbrev pub invariant-loop-from : goal.invariant-loop-from
+invariant-loop-from l = CursorIn l.s l.at VRPT l.c × (all_of end_good (entries_at l.s l.at VRPT) ≡ all_of end_good (left l.s l.at VRPT l.c))
+
+abbrev pub decreases-loop-from : goal.decreases-loop-from
+decreases-loop-from l = length (left l.s l.at VRPT l.c)
