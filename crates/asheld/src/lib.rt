@@ -2,6 +2,8 @@
 // number: each list in one field, in held order, both digit sizes the fewest. It promises to the crates above:
 // `held_size`, whether a record is such, and how long it is then; `put_held`, its bytes, copied as they
 // stand; `is_front`, whether its leader is that of the held form too, and `put_same`, its bytes then.
+#![tactic(auto)]
+
 pub mod front;
 pub mod size;
 pub mod write;

@@ -101,7 +101,7 @@ module _ {aall nall : ℕ} where
   unfolding result
   ordered_result good_none apart_none allowed_none all = all
   ordered_result {ts} (good_more {a = a} {more = us} good goods) (apart_more d rest) (allowed_more e allowed) all =
-      ordered_result goods rest (allowed_obeyed a d allowed) (ordered_obeyed a good (obeys_told ts a e) all)
+      ordered_result {ts = obeyed by_amendment a ts} goods rest (allowed_obeyed a d allowed) (ordered_obeyed a good (obeys_told ts a e) all)
 
 -- ---- the chart
 pub updated_good : {c : Chart} {u : Change} → GoodChart c → GoodChange u → (change_fault c u).code ≡ 0 → GoodChart (updated c u)

@@ -2,6 +2,8 @@
 // that its subfields fill it, that its values are good. It promises the walk over a record that where
 // it answers the field's kind, `layout` and `fieldvalue` find no fault in the field; where it answers
 // START, nothing is promised, and their general code decides.
+#![tactic(auto)]
+
 pub mod place;
 pub mod single;
 pub mod text;

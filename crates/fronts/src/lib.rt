@@ -2,6 +2,8 @@
 // `dsid_total`, `revised_total` and `dspm_total`, and their bytes, `put_dsid_record`,
 // `put_revised_record` (the DSID of an update's result) and `put_dspm_record`. It takes DSID and DSSI
 // from `header`, leader and directory from `records`.
+#![tactic(auto)]
+
 pub mod front;
 
 // How many bytes the record of DSID, which is at `at`, has in held form.

@@ -115,7 +115,7 @@ due_late : {stage low : ℕ} → Due stage low → (ltb stage 2 ≡ false) × (e
 due_late due_any = (refl, refl)
 due_late (due_feature h) = (refl, refl)
 
-pub objects_fine : {low : ℕ} {marks : List ℕ} (aall nall n k at : ℕ) (s : List ℕ) (st : State) {ts : List Item} → Declared marks → Ordered aall nall low ts
+pub objects_fine : {marks : List ℕ} (aall nall : ℕ) {low : ℕ} (n k at : ℕ) (s : List ℕ) (st : State) {ts : List Item} → Declared marks → Ordered aall nall low ts
     → Stand s at (items_pieces n ts)
     → Due st.stage low → st.aall ≡ aall → st.nall ≡ nall → records_fault (length ts) false marks s k at st ≡ fine
 unfolding records_fault items_pieces passed_state
@@ -127,7 +127,7 @@ objects_fine {marks = marks} aall nall n k at s st d (ordered_more {t = t} {ts =
     rw (r.laid, valued)
     (objects_fine aall nall (n + 1) (k + 1) (end_of s at) s (passed_state false s at st) d more rest r.next (rw late a) (rw late b))
 
-pub objects_back : {low : ℕ} (aall nall n at : ℕ) (s : List ℕ) {ts : List Item} → Ordered aall nall low ts → Stand s at (items_pieces n ts) → items_from (length ts) s at ≡ ts
+pub objects_back : (aall nall : ℕ) {low : ℕ} (n at : ℕ) (s : List ℕ) {ts : List Item} → Ordered aall nall low ts → Stand s at (items_pieces n ts) → items_from (length ts) s at ≡ ts
 unfolding items_from items_pieces
 objects_back aall nall n at s ordered_none stands = refl
 objects_back aall nall n at s (ordered_more {t = t} {ts = ts} le good more) (stand_more here rest) =

@@ -42,7 +42,7 @@ pub below_none : Below 0 []
 unfolding is_in
 below_none = record { is = λ x h. absurd (let z : ◌≡◌ {A = ℕ} 0 1 = cc in omega arith) }
 
-pub objects_once : {low : ℕ} {aall nall : ℕ} (k : ℕ) (seen : List ℕ) {ts : List Item} → Below low seen → Ordered aall nall low ts → twice_from k seen ts ≡ 0
+pub objects_once : {aall nall : ℕ} {low : ℕ} (k : ℕ) (seen : List ℕ) {ts : List Item} → Below low seen → Ordered aall nall low ts → twice_from k seen ts ≡ 0
 unfolding twice_from
 objects_once k seen below ordered_none = refl
 objects_once k seen below (ordered_more {t = t} {ts = ts} le good more) =
@@ -52,8 +52,8 @@ objects_once k seen below (ordered_more {t = t} {ts = ts} le good more) =
     rw fresh (objects_once (k + 1) (item_name t ∷ seen) (below_more (item_name t) le below) more)
 
 -- ---- counts
-pub objects_counted : {low : ℕ} (such : List ℕ → ℕ → Bool) (like : Item → Bool) → ((s : List ℕ) (at : ℕ) → such s at ≡ like (item_at s at))
-    → (aall nall n at : ℕ) (s : List ℕ) {ts : List Item}
+pub objects_counted : (such : List ℕ → ℕ → Bool) (like : Item → Bool) → ((s : List ℕ) (at : ℕ) → such s at ≡ like (item_at s at))
+    → (aall nall : ℕ) {low : ℕ} (n at : ℕ) (s : List ℕ) {ts : List Item}
     → Ordered aall nall low ts → Stand s at (items_pieces n ts) → count_of such (length ts) s at ≡ count_in like ts
 unfolding count_of count_in items_pieces
 objects_counted such like same aall nall n at s ordered_none stands = refl

@@ -8,7 +8,7 @@ use items::word;
 use words::find;
 
 // The indexes of the first connected node and of the first edge; isolated nodes begin at 0.
-#[derive(Drop)]
+#[derive(Clone, Copy)]
 pub struct Starts {
     pub connected: usize,
     pub edges: usize,

@@ -2,6 +2,8 @@
 // to the crates above: `lie`, the places of all kinds; `put_lying` and `total_lying`, the bytes of a list and
 // how many they are, by its place. It takes fields from `iso8211` and records that are laid out from
 // `items`. A list in several fields is left to `joining`.
+#![tactic(auto)]
+
 ghost use Rattle.std.specs.Prelude.{◌+◌, ◌-◌, ◌≤◌, ◌<◌, ◌≡◌, length};
 ghost use Rattle.octets.specs.Area.{Wrote};
 ghost use Rattle.iso8211.specs.Premises.{HeadOf};

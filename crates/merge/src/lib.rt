@@ -1,6 +1,8 @@
 // What an update makes of the names of a chart: the words of cell and update, woven into those of the
 // result in held order, and the walk over them. It takes the words of a file from `names`; what a word
 // stands for is left to the crates above.
+#![tactic(auto)]
+
 ghost use Rattle.merge.specs.Woven.{Warp, Wove};
 
 use marks::mark_deletes;

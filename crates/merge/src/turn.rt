@@ -11,7 +11,7 @@ use words::get;
 
 // What a turn takes and gives: x words of the cell and y of the update are used up; `keep` words of
 // the result come of them, 0 or 1, which is `word`, and `change` of its modifies, which is `by`.
-#[derive(Drop)]
+#[derive(Clone, Copy)]
 pub struct Turn {
     pub x: usize,
     pub y: usize,

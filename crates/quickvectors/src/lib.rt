@@ -2,6 +2,8 @@
 // tell the shape, one loop tells whether all coordinates are within their limits, and the nodes of an
 // edge are looked up where they are guessed (`lookups`). It promises one way only: where it says yes,
 // Shape, Pointer and Ring find no fault; where it says no, the general code decides.
+#![tactic(auto)]
+
 ghost use Rattle.std.specs.Prelude.{◌≤◌, length};
 ghost use Rattle.headvalues.specs.Dspm.{most_comf};
 ghost use Rattle.items.specs.Item.{item_at};

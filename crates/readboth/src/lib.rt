@@ -2,6 +2,8 @@
 // and `read_both`, the calls of reading alone, after which the work area is zero; and `both_fault`,
 // codes 4 to 8 of both files, which leaves the names of both in the work area for the crates above. It
 // takes each file's codes from `reader`.
+#![tactic(auto)]
+
 pub mod both;
 pub mod read;
 

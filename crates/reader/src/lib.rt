@@ -3,6 +3,8 @@
 // to 7. It takes the framing from `iso8211`, the records from `chart`, the names from `names` and the
 // counts from `counted`. A file without refusal leaves the words of its names in the work area, in
 // held order: the calls above zero it.
+#![tactic(auto)]
+
 pub mod fault;
 pub mod front;
 

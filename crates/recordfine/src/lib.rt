@@ -2,6 +2,8 @@
 // path only. It promises the crates above that where it says "fine", `iso8211`, `layout` and
 // `fieldvalue` find no fault in the record; where it says no, nothing is promised, and their general
 // code decides. Each row of the directory, each field and each byte of a text is read once.
+#![tactic(auto)]
+
 pub mod front;
 pub mod open;
 pub mod row;

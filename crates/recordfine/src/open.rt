@@ -11,7 +11,7 @@ use octets::widths::five_digits;
 
 // Of a record whose leader is good: where it ends (0: it isn't good), where its fields start, and the two
 // digit sizes of its directory.
-#[derive(Drop)]
+#[derive(Clone, Copy)]
 pub struct Open {
     pub end: usize,
     pub body: usize,

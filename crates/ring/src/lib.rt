@@ -2,6 +2,8 @@
 // first of them exterior; judged together with its Pointer, code 18, so that an edge is looked up once.
 // It takes the lists from `items` and the code of missing names from `pointer`; where an edge begins
 // and ends it takes from the notes in the work area, which `ends_of` makes.
+#![tactic(auto)]
+
 ghost use Rattle.std.specs.Prelude.{◌≡◌};
 ghost use Rattle.table.specs.Table.{FSPT};
 ghost use Rattle.words.specs.Words.{words_in};

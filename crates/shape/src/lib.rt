@@ -2,6 +2,8 @@
 // and a feature the pointers of its primitive, and whether what stands in them is allowed. It takes a
 // vector's shape from `vectorshape`, the lists and the identity of a laid-out record from `items`, the
 // collections from `values`.
+#![tactic(auto)]
+
 ghost use Rattle.std.specs.Prelude.{◌≤◌, ◌≡◌};
 ghost use Rattle.headvalues.specs.Dspm.{most_comf};
 ghost use Rattle.iso8211.specs.Premises.{HeadOf};

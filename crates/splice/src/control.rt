@@ -5,7 +5,7 @@ ghost use Rattle.edits.specs.Lists.{list_allowed};
 ghost use Rattle.splice.specs.Given.{numbers_of, option_of, Given};
 
 // VRPC, SGCC, FFPC or FSPC; where it doesn't stand, `there` is false and the numbers mean nothing.
-#[derive(Drop)]
+#[derive(Clone, Copy)]
 pub struct Control {
     pub there: bool,
     pub instruction: u32,

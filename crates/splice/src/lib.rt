@@ -1,5 +1,7 @@
 // The edit of a list by its control, on the bytes of its entries: `put_spliced`. Held and brought entries
 // are two slices, and the edited list is written into an area. It promises the bytes that `edits` defines.
+#![tactic(auto)]
+
 pub mod control;
 pub mod list;
 

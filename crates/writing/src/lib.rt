@@ -4,6 +4,8 @@
 // are the held form's; `size_of` and `put_item`, the same of one item. It takes the rows of a record from
 // `itemrows`, its lists from `joining`, what an item's fields are from `itemfields`, records that are copied
 // whole from `asheld`, and from the crates below a cell in which nothing was refused.
+#![tactic(auto)]
+
 pub mod all;
 pub mod item;
 pub mod joined;

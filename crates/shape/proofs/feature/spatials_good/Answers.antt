@@ -1,0 +1,29 @@
+use Rattle.items.proofs.CursorLaws.{begin_in, all_begin}
+use Rattle.items.proofs.PartLaws.{part_up, part_within, part_in, part_less, bare_told, parts_done, parts_no, parts_on}
+use Rattle.items.proofs.KindLaws.{fspt_fixed, fspt_bare}
+use Rattle.std.proofs.Common.{rules}
+use Rattle.shape.proofs.feature.spatials_good.Goals as goal
+
+pub loop-from-init : goal.loop-from-init
+loop-from-init c = (search (rules, begin_in), search (rules, all_begin))
+
+pub returns-in_default : goal.returns-in_default
+returns-in_default c = search (rules, parts_done)
+
+pub slice_bounds-part_spatials-count : goal.slice_bounds-part_spatials-count
+slice_bounds-part_spatials-count c = search (rules, part_up)
+
+pub slice_bounds-part_spatials-start : goal.slice_bounds-part_spatials-start
+slice_bounds-part_spatials-start c = search (rules, part_up)
+
+pub slice_bounds-part_spatials-end : goal.slice_bounds-part_spatials-end
+slice_bounds-part_spatials-end c = search (rules, part_within)
+
+pub returns-then-not-part_spatials : goal.returns-then-not-part_spatials
+returns-then-not-part_spatials c = search (rules, parts_no, bare_told, fspt_fixed, fspt_bare)
+
+pub loop-from-smaller : goal.loop-from-smaller
+loop-from-smaller c = search (rules, part_less)
+
+pub loop-from-preserved : goal.loop-from-preserved
+loop-from-preserved c = (search (rules, part_in), search (rules, parts_on, bare_told, fspt_fixed, fspt_bare))
