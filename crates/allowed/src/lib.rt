@@ -1,6 +1,8 @@
 // Whether a record of an update may do what it says to the object that it names: `lists_allowed` for a
 // modify, `insert_allowed`, `delete_allowed` (code 16), and `identity_same` (code 15). It takes each
 // edited list from `amend`, what a record says from `items`.
+#![tactic(auto)]
+
 pub mod brought;
 pub mod identity;
 pub mod rule;

@@ -2,6 +2,8 @@
 // controls; `put_kind`, each edited list put into a lent area, or that its edit breaks a rule. It
 // takes where a record's lists lie from `lying`, the edit of a list from `splice` and that of
 // attributes from `labelled`.
+#![tactic(auto)]
+
 pub mod control;
 pub mod lists;
 pub mod plan;

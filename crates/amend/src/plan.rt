@@ -14,7 +14,7 @@ use table::kinds;
 
 // The kinds of the four lists of a vector or of a feature; the controls of the update's record; the
 // kind that SGCC means.
-#[derive(Drop)]
+#[derive(Clone, Copy)]
 pub struct Plan {
     pub kinds: [usize; 4],
     pub first: Control,

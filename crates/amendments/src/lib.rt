@@ -1,6 +1,8 @@
 // Codes 13 to 16: `amendments_fault`, each record of an update against the cell that it finds. It
 // takes the look-up of a name among the cell's words from `lookups`, where the update's records start
 // from `names`, what a record says from `items`, and whether it may do so from `allowed`.
+#![tactic(auto)]
+
 pub mod code;
 pub mod fault;
 

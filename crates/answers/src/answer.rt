@@ -5,7 +5,7 @@ ghost use Rattle.answers.specs.Answer.{answer, filed};
 use crate::refusal::Refusal;
 
 // The code, the file (0 none, 1 cell, 2 update, 3 result), the record, the number, and the byte of the file.
-#[derive(Drop)]
+#[derive(Clone, Copy)]
 pub struct Answer {
     pub code: u32,
     pub file: u32,

@@ -2,6 +2,8 @@
 // to 8, or nothing: then the code that finds the refusal reads them again. It takes the pass over a
 // file from `readonce`, the first repeat of a name from `names`, and words and their sort from
 // `words`.
+#![tactic(auto)]
+
 pub mod both;
 pub mod raise;
 pub mod update;

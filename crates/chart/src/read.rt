@@ -19,7 +19,7 @@ use table::{kind_of, kinds};
 
 // What is known between two records: which kind of record is due (0 that of DSID, 1 that of DSPM, 2 a
 // vector or a feature, 3 a feature), and the levels AALL and NALL.
-#[derive(Drop)]
+#[derive(Clone, Copy)]
 pub struct State {
     pub stage: usize,
     pub aall: u32,
@@ -27,7 +27,7 @@ pub struct State {
 }
 
 // Where reading stands between two records: which one comes next, where it starts, and what is known there.
-#[derive(Drop)]
+#[derive(Clone, Copy)]
 pub struct Reached {
     pub index: usize,
     pub at: usize,

@@ -1,6 +1,8 @@
 // Whether an update may follow a chart: codes 9 to 12, from the headers of the two files. It takes the
 // contents of their DSID from `fronts`, the numbers in DSID from `header`, the levels of the texts
 // from `layout`, and the rules from `changes`.
+#![tactic(auto)]
+
 ghost use Rattle.std.specs.Prelude.{ℕ, ◌&&◌, ◌≡◌, eqb};
 ghost use Rattle.iso8211.specs.File.{record_at};
 ghost use Rattle.fieldparts.specs.Same.{same_list};

@@ -7,7 +7,7 @@ use words::get;
 
 // An item of the result: its word, and where `change` is 1 the word of the record of the update that
 // modifies it.
-#[derive(Drop)]
+#[derive(Clone, Copy)]
 pub struct At {
     pub word: u64,
     pub change: usize,

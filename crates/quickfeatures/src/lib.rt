@@ -3,6 +3,8 @@
 // ring; its LNAM are looked up where they are guessed. It promises one way only: where it says yes,
 // the rules of `shape` and `ring` and those of Pointer find no fault; where it says no, the general
 // code decides.
+#![tactic(auto)]
+
 ghost use Rattle.std.specs.Prelude.{◌≡◌};
 ghost use Rattle.items.specs.Identity.{id_at, rcnm_at};
 ghost use Rattle.items.specs.Item.{item_at};

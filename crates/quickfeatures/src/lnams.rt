@@ -17,7 +17,7 @@ use words::get;
 
 // How the FOIDs lie if they lie evenly: the first, and how far each lies behind the one before it. It
 // is reckoned once for a feature, and promises nothing but that one can divide by the step.
-#[derive(Drop)]
+#[derive(Clone, Copy)]
 struct Lie {
     first: u64,
     step: u64,

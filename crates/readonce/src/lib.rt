@@ -3,6 +3,8 @@
 // where the pass finds a record that it doesn't know to be good, the code that finds the refusal goes on
 // there. It takes the walk over one record from `recordfine`, record 0 from `described`, names and counts
 // from `names` and `counted`, and the codes from `reader`.
+#![tactic(auto)]
+
 pub mod cell;
 pub mod pass;
 pub mod record;

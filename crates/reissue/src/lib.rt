@@ -2,6 +2,8 @@
 // a byte is written, and `put_chart`, its bytes. It takes record 0 from `header`, the records of DSID and
 // DSPM from `fronts`, the vectors and features from `writing`, and the held order from the words that
 // reading left in the work area.
+#![tactic(auto)]
+
 pub mod plan;
 pub mod tally;
 pub mod write;

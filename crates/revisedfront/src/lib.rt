@@ -1,6 +1,8 @@
 // The records in front of an update's result: record 0, DSID revised by that of the update, with DSSI, and
 // DSPM. `fronts_of`, where they stand; `front_sizes`, how long they are; `put_front`, their bytes. It
 // takes record 0 from `header` and the others from `fronts`.
+#![tactic(auto)]
+
 pub mod front;
 
 // Where the records in front stand.

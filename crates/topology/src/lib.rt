@@ -2,6 +2,8 @@
 // one item from `shape`, `pointer` and `ring`, what tells quickly that an item has no fault from
 // `quickvectors` and `quickfeatures`, and the held order from the words that reading left in the work
 // area.
+#![tactic(auto)]
+
 ghost use Rattle.std.specs.Prelude.{◌-◌, ◌*◌, ◌≤◌, false, ◌≡◌, length};
 ghost use Rattle.headvalues.specs.Dspm.{most_comf};
 ghost use Rattle.words.specs.Words.{words_in};

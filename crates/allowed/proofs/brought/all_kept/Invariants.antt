@@ -1,0 +1,13 @@
+-- The rule of all entries is the rule of those left.
+use Rattle.std.proofs.Common.{◌≡◌, length}
+use Rattle.entries.specs.Rules.{all_of}
+use Rattle.items.specs.Lists.{entries_at}
+use Rattle.items.specs.Cursors.{left, CursorIn}
+use Rattle.allowed.specs.Brought.{is_kept}
+use Rattle.allowed.proofs.brought.all_kept.Given as goal
+
+abbrev pub invariant-loop-from : goal.invariant-loop-from
+invariant-loop-from l = CursorIn l.s l.at l.k l.c × (all_of is_kept (entries_at l.s l.at l.k) ≡ all_of is_kept (left l.s l.at l.k l.c))
+
+abbrev pub decreases-loop-from : goal.decreases-loop-from
+decreases-loop-from l = length (left l.s l.at l.k l.c)
