@@ -1,5 +1,7 @@
 // The listing of a cell as text: `row_at`, the numbers of an item's row; `put_line`, `put_refused` and
 // `put_header`, the lines.
+#![tactic(auto)]
+
 pub mod row;
 pub mod text;
 

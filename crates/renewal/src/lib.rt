@@ -3,6 +3,8 @@
 // be the held form's already are copied by the second without another test. It takes the items of the
 // result from the walk of `merge`, the record of a changed item from `resultitems`, each record in held
 // form from `writing`, the counts from `resultcounts` and the records in front from `revisedfront`.
+#![tactic(auto)]
+
 pub mod all;
 pub mod item;
 pub mod write;

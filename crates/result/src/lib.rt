@@ -1,5 +1,7 @@
 // Topology of an update's result, codes 17 to 19, before anything of it is written: `result_fault`, its
 // items in held order by the words that `merge` wove, each judged by `resultitems` where its record stands.
+#![tactic(auto)]
+
 ghost use Rattle.std.specs.Prelude.{◌+◌, ◌*◌, ◌≤◌, ◌≡◌, length};
 ghost use Rattle.headvalues.specs.Dspm.{most_comf};
 ghost use Rattle.words.specs.Words.{words_in};
