@@ -19,17 +19,15 @@ pub comment_good-requires : goal.comment_good-requires
 comment_good-requires c = (search (rules, pointer_long), search rules)
 
 pub returns-then-not-comment_good : goal.returns-then-not-comment_good
-returns-then-not-comment_good c =
-    (
-      walked_comment c.loop-at.invariant.1 _ c.entry_len_at-n.ensures.0 c.if-n-eq0.false
-          c.entry_len_at-n.ensures.1 _ c.rind_good.ensures c.if-not-rind_good.false-raw _ c.comment_good.ensures c.if-not-comment_good.true-raw,
-      search (rules, pointer_within),
-    )
+returns-then-not-comment_good c = (
+  walked_comment c.loop-at.invariant.1 _ c.entry_len_at-n.ensures.0 c.if-n-eq0.false
+      c.entry_len_at-n.ensures.1 _ c.rind_good.ensures c.if-not-rind_good.false-raw _ c.comment_good.ensures c.if-not-comment_good.true-raw,
+  search (rules, pointer_within),
+)
 
 pub loop-at-preserved : goal.loop-at-preserved
-loop-at-preserved c =
-    (
-      search rules,
-      walked_on c.loop-at.invariant.1 _ c.entry_len_at-n.ensures.0 c.if-n-eq0.false
-          c.entry_len_at-n.ensures.1 _ c.rind_good.ensures c.if-not-rind_good.false-raw _ c.comment_good.ensures c.if-not-comment_good.false-raw,
-    )
+loop-at-preserved c = (
+  search rules,
+  walked_on c.loop-at.invariant.1 _ c.entry_len_at-n.ensures.0 c.if-n-eq0.false
+      c.entry_len_at-n.ensures.1 _ c.rind_good.ensures c.if-not-rind_good.false-raw _ c.comment_good.ensures c.if-not-comment_good.false-raw,
+)

@@ -19,10 +19,10 @@ returns-then-end-eq0 t c = search (rules, turn_none)
 
 pub overflow_add-result : goal.overflow_add-result
 overflow_add-result t c = omega (
-      arith,
-      c.byte-mark.ensures.inside,
-      c.well_formed.0.0,
-    )
+  arith,
+  c.byte-mark.ensures.inside,
+  c.well_formed.0.0,
+)
 
 pub returns-then-mark-eq41 : goal.returns-then-mark-eq41
 returns-then-mark-eq41 t c = search (rules, turn_closed)
@@ -32,10 +32,10 @@ returns-then-mark-ne44 t c = search (rules, turn_open)
 
 pub overflow_add-from-in-loop-turn : goal.overflow_add-from-in-loop-turn
 overflow_add-from-in-loop-turn t c = omega (
-      arith,
-      c.byte-mark.ensures.inside,
-      c.well_formed.0.0,
-    )
+  arith,
+  c.byte-mark.ensures.inside,
+  c.well_formed.0.0,
+)
 
 pub loop-turn-preserved : goal.loop-turn-preserved
 loop-turn-preserved t c = (search rules, search (rules, turn_further))

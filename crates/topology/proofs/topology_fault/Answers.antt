@@ -18,6 +18,9 @@ pub items_fault-requires : goal.items_fault-requires
 items_fault-requires c = (search (rules, held_next), search rules, search rules, search (rules, held_few), search (rules, held_clear))
 
 pub returns : goal.returns
-returns c = record { value = held_fault c.requires.0
+returns c = record {
+  value = held_fault c.requires.0
       c.requires.2 refl (search rules)
-      (λ i. omega (arith, c.type_inv.s i)) _ _ (search rules) c.items_fault.ensures; held_in = search (rules, held_stays) }
+      (λ i. omega (arith, c.type_inv.s i)) _ _ (search rules) c.items_fault.ensures;
+  held_in = search (rules, held_stays);
+}

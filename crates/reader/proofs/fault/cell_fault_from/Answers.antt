@@ -15,8 +15,11 @@ repeated-t-requires c = (
 )
 
 pub returns-then-index-ne0 : goal.returns-then-index-ne0
-returns-then-index-ne0 c = record { value = cell_twice _ _ _ c.read_fault_from-r.ensures c.if-code-ne0.false
-      _ c.repeated-t.ensures.value _ c.if-index-ne0.true c.refuse.ensures; held_in = held_refused _ 6 _ _ c.refuse.ensures }
+returns-then-index-ne0 c = record {
+  value = cell_twice _ _ _ c.read_fault_from-r.ensures c.if-code-ne0.false
+      _ c.repeated-t.ensures.value _ c.if-index-ne0.true c.refuse.ensures;
+  held_in = held_refused _ 6 _ _ c.refuse.ensures;
+}
 
 pub counts_good-requires : goal.counts_good-requires
 counts_good-requires c = (
@@ -32,12 +35,18 @@ record_end-requires c = framed_at _ _ 0 0 c.requires.0.framed
     (last_ends _ _ c.requires.0.framed).0 (at_start _)
 
 pub returns-then-not-counts_good : goal.returns-then-not-counts_good
-returns-then-not-counts_good c = record { value = cell_counts _ _ _ c.read_fault_from-r.ensures
+returns-then-not-counts_good c = record {
+  value = cell_counts _ _ _ c.read_fault_from-r.ensures
       c.if-code-ne0.false _ c.repeated-t.ensures.value
       c.if-index-ne0.false _ c.counts_good.ensures _ _ c.if-not-counts_good.true-raw c.record_end.ensures.0
-      c.refuse-then-not-counts_good.ensures; held_in = held_refused _ 7 _ _ c.refuse-then-not-counts_good.ensures }
+      c.refuse-then-not-counts_good.ensures;
+  held_in = held_refused _ 7 _ _ c.refuse-then-not-counts_good.ensures;
+}
 
 pub returns : goal.returns
-returns c = record { value = cell_fine _ _ _ c.read_fault_from-r.ensures
+returns c = record {
+  value = cell_fine _ _ _ c.read_fault_from-r.ensures
       c.if-code-ne0.false _ c.repeated-t.ensures.value
-      c.if-index-ne0.false _ c.counts_good.ensures _ c.if-not-counts_good.false-raw c.refuse-2.ensures; held_in = λ z. held_words c.repeated-t.ensures.update_after }
+      c.if-index-ne0.false _ c.counts_good.ensures _ c.if-not-counts_good.false-raw c.refuse-2.ensures;
+  held_in = λ z. held_words c.repeated-t.ensures.update_after;
+}

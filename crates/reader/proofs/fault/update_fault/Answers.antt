@@ -14,9 +14,15 @@ repeated-t-requires c = (
 )
 
 pub returns-then-index-ne0 : goal.returns-then-index-ne0
-returns-then-index-ne0 c = record { value = update_twice _ _ _ c.read_fault-r.ensures c.if-code-ne0.false
-      _ c.repeated-t.ensures.value _ c.if-index-ne0.true c.refuse.ensures; come_in = come_refused _ 6 _ _ c.refuse.ensures }
+returns-then-index-ne0 c = record {
+  value = update_twice _ _ _ c.read_fault-r.ensures c.if-code-ne0.false
+      _ c.repeated-t.ensures.value _ c.if-index-ne0.true c.refuse.ensures;
+  come_in = come_refused _ 6 _ _ c.refuse.ensures;
+}
 
 pub returns : goal.returns
-returns c = record { value = update_fine _ _ _ c.read_fault-r.ensures c.if-code-ne0.false
-      _ c.repeated-t.ensures.value _ c.if-index-ne0.false c.refuse-2.ensures; come_in = λ z. come_words c.repeated-t.ensures.update_after }
+returns c = record {
+  value = update_fine _ _ _ c.read_fault-r.ensures c.if-code-ne0.false
+      _ c.repeated-t.ensures.value _ c.if-index-ne0.false c.refuse-2.ensures;
+  come_in = λ z. come_words c.repeated-t.ensures.update_after;
+}

@@ -6,9 +6,12 @@ pub passed_fault-requires : goal.passed_fault-requires
 passed_fault-requires c = rest_passed c.requires c.if-count-ne0.true
 
 pub returns-then-count-ne0 : goal.returns-then-count-ne0
-returns-then-count-ne0 c = record { value = rest_is c.requires c.if-count-ne0.true _
-      c.passed_fault.ensures.value; held_in = rest_held c.requires
-      c.if-count-ne0.true _ c.passed_fault.ensures.held_in }
+returns-then-count-ne0 c = record {
+  value = rest_is c.requires c.if-count-ne0.true _
+      c.passed_fault.ensures.value;
+  held_in = rest_held c.requires
+      c.if-count-ne0.true _ c.passed_fault.ensures.held_in;
+}
 
 pub cell_fault_from-requires : goal.cell_fault_from-requires
 cell_fault_from-requires c = (rest_lent c.requires, rest_read c.requires)
