@@ -47,7 +47,7 @@ module _ {E : Type 0} {rule : E → Type 0} where
   pub changes_all : (label : E → ℕ) (removes : E → Bool) {held brought : List E} → All rule held → All rule brought → All rule (changes label removes held brought)
   unfolding changes
   changes_all label removes p all_none = p
-  changes_all label removes p (all_more {e = a} h q) = changes_all label removes (change_all label removes a h p) q
+  changes_all label removes {held = held} p (all_more {e = a} h q) = changes_all label removes {held = change label removes a held} (change_all label removes a h p) q
 
   pub edited_all : (o : Option Control) {held brought : List E} → All rule held → All rule brought → All rule (list_edited o held brought)
   unfolding list_edited edited_by edited

@@ -107,7 +107,7 @@ obeyed_bytes a b all =
 result_bytes : {ts : List Item} {us : List Amendment} → All ByteObject ts → All (λ (a : Amendment). ByteObject a.object) us → All ByteObject (result by_amendment ts us)
 unfolding result
 result_bytes all all_none = all
-result_bytes all (all_more {e = a} b rest) = result_bytes (obeyed_bytes a b all) rest
+result_bytes {ts = ts} all (all_more {e = a} b rest) = result_bytes {ts = obeyed by_amendment a ts} (obeyed_bytes a b all) rest
 
 change_bytes : (c : Chart) (u : Change) → ByteChart c → ByteChange u → ByteChart (updated c u)
 unfolding updated updated_header revised

@@ -3,6 +3,8 @@
 // and coordinates, parted by tabs. A cell that is refused answers only `refused` and the code, file
 // and record. It takes the verdict from `judging`, the held order from `names` and the lines from
 // `listingrows`. The text is proved, byte by byte, and written out at once.
+#![tactic(auto)]
+
 ghost use Rattle.std.specs.Prelude.{◌≤◌, ◌<◌, ◌≡◌, length};
 ghost use Rattle.octets.specs.Area.{Wrote};
 ghost use Rattle.listingrows.specs.Listing.{JudgedCell, listing_with, listing_of};

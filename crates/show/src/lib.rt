@@ -2,6 +2,8 @@
 // has one so named, else of the cell. It takes reading from `reader` and `readboth`, the look-up of a
 // name from `shownames` and the answer of 16 bytes from `answers`. It accepts all bytes, all areas and
 // all numbers; the work area is zero afterwards.
+#![tactic(auto)]
+
 ghost use Rattle.show.specs.Shows.{Shows};
 
 use answers::sixteen::put_answer;

@@ -12,7 +12,7 @@ use lookups::lookup::Found;
 use shownames::named::place_named;
 
 // The record that is shown, or the answer of a refusal.
-#[derive(Drop)]
+#[derive(Clone, Copy)]
 pub enum Sight {
     Shown(Span),
     Denied(Answer),

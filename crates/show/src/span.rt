@@ -8,7 +8,7 @@ ghost use Rattle.show.specs.Listed.{SpanIn};
 use iso8211::field::record_end;
 
 // `size` bytes of the update, or of the cell, from `from` on.
-#[derive(Drop)]
+#[derive(Clone, Copy)]
 pub struct Span {
     pub update: bool,
     pub from: usize,

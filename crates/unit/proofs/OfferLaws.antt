@@ -28,7 +28,7 @@ use Rattle.unit.proofs.StepLaws.{unit_takes}
 
 -- ---- a file of one list of offers is one of both
 pub in_left : (os ps : List Offer) (file : List ℕ) → In os file → In (os ++ ps) file
-in_left [] ps file m = absurd (Memᴰ.not_nil m)
+in_left [] ps file m = absurd (Memᴰ.not-nil m)
 in_left (o ∷ os) ps file m =
     ⊎_elim (λ (h : file ≡ o.file). Memᴰ.head h) (λ (n : In os file). Memᴰ.tail (in_left os ps file n)) (Memᴰ.cases_cons m)
 
@@ -38,7 +38,7 @@ in_right (o ∷ os) ps file m = Memᴰ.tail (in_right os ps file m)
 
 -- ---- the premises, of a list that is written out: a rule that each file keeps, and one that any two keep
 pub in_each : {P : List ℕ → Type 0} (os : List Offer) → All P (files_of os) → (file : List ℕ) → In os file → P file
-in_each [] h file m = absurd (Memᴰ.not_nil m)
+in_each [] h file m = absurd (Memᴰ.not-nil m)
 in_each {P} (o ∷ os) (all_more p rest) file m =
     ⊎_elim (λ (e : file ≡ o.file). rw e p) (λ (n : In os file). in_each os rest file n) (Memᴰ.cases_cons m)
 
@@ -96,7 +96,7 @@ module _ {Offered : List ℕ → Type 0} {base : List ℕ} (b : Bytes base) (oct
   unit_reaches [] u s enough_none = (stands_held octets (unit_stands octets b u), omega arith)
   unit_reaches {cell} (o ∷ os) u (next off a s) (enough_more areas more) =
       let e = taken_chart o off u a areas in
-      let rest = unit_reaches os (given o off u) (rw e s) more in
+      let rest = unit_reaches {cell = offered cell o} os (given o off u) (rw e s) more in
       let one = (unit_takes b octets u o (octets o.file off) a areas).1 in
       let others = rest.1 in
       (rest.0 ∙ ap (λ (c : Chart). held_of (worked c (files_of os))) e, omega arith)
