@@ -2,6 +2,8 @@
 // takes any bytes of any length. It promises to nobody above; it takes the framing from `iso8211`, the
 // cut of a descriptive field from `fieldparts`, format lists from `formats`, reading whole from
 // `readboth` and Show from `show`.
+#![tactic(auto)]
+
 ghost use Rattle.std.specs.Prelude.{◌+◌, ◌*◌, ◌<◌, ◌≡◌};
 ghost use Rattle.iso8211.specs.File.{frame_of};
 ghost use Rattle.probe.specs.Verdict.{verdict_of};
