@@ -1,6 +1,8 @@
 // What an update makes of a cell, both read: `changed` gives codes 9 to 16, the areas in which the record
 // of a changed object is built, then what `resultstages` gives. It takes codes 9 to 12 from `follow` and
 // 13 to 16 from `amendments`.
+#![tactic(auto)]
+
 ghost use Rattle.std.specs.Prelude.{◌≡◌, length, replicate};
 ghost use Rattle.resultitems.specs.Able.{Rooms};
 ghost use Rattle.loader.specs.Admit.{area_by};

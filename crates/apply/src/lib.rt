@@ -3,6 +3,8 @@
 // they aren't known to be, the stages of reading from `reader` and `readboth`; and codes 9 to 16 and
 // the held form of the result from `amending`. What it promises is `apply_of` and `apply_area` of
 // `loader`.
+#![tactic(auto)]
+
 ghost use Rattle.std.specs.Prelude.{◌≡◌, length, replicate};
 ghost use Rattle.reader.specs.Reader.{front_of};
 ghost use Rattle.loader.specs.Apply.{apply_of, apply_area};

@@ -2,6 +2,8 @@
 // area of exactly 16 bytes is filled. Judge comes from `judging`, Admit from `loader`, Apply from
 // `apply`. Every call accepts all bytes and all areas; the work area is zero afterwards, and after a
 // refusal the output is as it was. The archive of this crate is what a host links.
+#![tactic(auto)]
+
 ghost use Rattle.s57.specs.Returned.{Judged, Admitted, Applied};
 
 use answers::sixteen::put_answer;
