@@ -13,7 +13,7 @@ use formats::write_out;
 use iso8211::Framed;
 use iso8211::file::frame;
 
-pub mod described;
+pub mod descriptions;
 pub mod fields;
 pub mod part;
 pub mod read;
@@ -56,7 +56,7 @@ pub extern "C" fn probe_formats(text: &[u8], out: &mut [u8]) -> u32 {
     if out.len() != 128 {
         return count;
     }
-    described::put_items(items, out);
+    descriptions::put_items(items, out);
     count
 }
 
