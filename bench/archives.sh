@@ -14,7 +14,7 @@ mkdir -p "$top/target/staticlib" "$top/target/bin"
 for name; do
     folder=$top/crates/$name
     if [ -f "$folder/src/main.rt" ]; then
-        # rt run makes the program, and runs it: on nothing
+        # rt run makes the program and runs it, here on nothing, on which it may end as it likes: what counts is that the program is there
         made=$folder/out/$name to=$top/target/bin/$name
         rm -f "$made"
         (cd "$folder" && rt run </dev/null >/dev/null) || [ -x "$made" ] || { echo "bench/archives.sh: rt run made no $made" >&2; exit 1; }
