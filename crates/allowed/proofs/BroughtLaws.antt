@@ -1,13 +1,18 @@
 -- What an insert and a delete bring, as the code reads it. Assumes nothing.
-use Prim.Native.Nat.{ℕ, ◌+◌, ◌-◌, ◌≤◌, ◌<◌}
-use mathlib.Core.Bool.{Bool, true, false, not, ◌&&◌}
+use Prim.Native.Nat.{ℕ, zero, suc, ◌+◌, ◌-◌, ◌≤◌, ◌<◌}
+use mathlib.Core.Bool.{Bool, true, false, ◌&&◌}
 use mathlib.Core.List.{List, [], ◌∷◌, ◌++◌, flatten}
 use mathlib.Core.Logic.{⊎_elim}
 use mathlib.Core.Path.{◌≡◌, refl, sym, ap, ◌∙◌}
+use native.Mathlib.Nat.{zero-add}
+use native.Mathlib.Numerals.{add-one}
 use native.Mathlib.Omega.{arith}
 use lib.ListN.{length}
 use lib.Dec.{eqb}
-use borrow.Author.Tests.{eq-eqb, ne_eqb, not-false}
+use borrow.Author.Tests.{eq-eqb, ne_eqb}
+use Rattle.std.specs.Bool.{MatchBool}
+use Rattle.std.specs.List.{AllWithin, range_with_len}
+use Rattle.std.proofs.lemmas.List.FromFn.{length-range_with_len, get_or-range_with_len}
 use Rattle.octets.specs.Number.{byte_at}
 use Rattle.octets.proofs.Cases.{eq_or_ne}
 use Rattle.octets.proofs.Tests.{chain}
@@ -57,21 +62,35 @@ skips_no s at f k = record { is = λ e. absurd (let z : ◌≡◌ {A = ℕ} 0 1 
 pub skips_so : {s : List ℕ} {at f : ℕ} (k tag kind : ℕ) → tag ≡ (field_at s at f).tag → kind ≡ kind_of tag → (kind ≡ k → ⊥) → SkipsTold s at f k true
 skips_so {s} {at} {f} k tag kind named told other = record { is = λ e. part_no s at k f (λ z. other (told ∙ ap kind_of named ∙ z)) }
 
-pub lacks_no : (s : List ℕ) (at k : ℕ) → LacksTold s at k false
+module _ (s : List ℕ) (at k fields : ℕ) (all : fields ≡ count_at s at) (each : (f : ℕ) → f < fields → SkipsTold s at f k true) where
+  without : (f : ℕ) → f ≤ fields → Without s at k f
+  without zero few = record { left = sym (join_all s at k) }
+  without (suc f) few =
+      let so = without f (omega arith) in
+      let here : f < count_at s at = omega arith in
+      let skipped = each f (omega arith) in
+      rw (← add-one f)
+      (record {
+        left = so.left ∙ join_next s at k f here ∙ ap (λ (l : List ℕ). l ++ join_from (count_at s at - (f + 1)) s at k (f + 1)) (skipped.is refl);
+      })
+
+  without_all : list_at s at k ≡ []
+  without_all = let so = without fields (omega arith) in so.left ∙ join_end s at k fields (omega arith)
+
+lacks_no : (s : List ℕ) (at k : ℕ) → LacksTold s at k false
 lacks_no s at k = record { is = λ e. absurd (let z : ◌≡◌ {A = ℕ} 0 1 = cc in omega arith) }
 
-pub without_start : (s : List ℕ) (at k : ℕ) → Without s at k 0
-without_start s at k = record { left = sym (join_all s at k) }
-
-module _ {s : List ℕ} {at : ℕ} (f fields : ℕ) (all : fields ≡ count_at s at) {k : ℕ} (so : Without s at k f) where
-  pub without_on : (r : Bool) → f < fields → SkipsTold s at f k r → not r ≡ false → Without s at k (f + 1)
-  without_on r here told skipped = record {
-    left = so.left ∙ join_next s at k f (rw (← all) here)
-        ∙ ap (λ (l : List ℕ). l ++ join_from (count_at s at - (f + 1)) s at k (f + 1)) (told.is (not-false r skipped));
-  }
-
-  pub without_end : fields ≤ f → LacksTold s at k true
-  without_end past = record { is = λ e. so.left ∙ join_end s at k f (rw (← all) past) }
+pub lacks_so : (s : List ℕ) (at i j k fields : ℕ) (r : Bool) (No : Type 0) → fields ≡ count_at s at
+    → MatchBool r (AllWithin (λ f. SkipsTold s at f i true × SkipsTold s at f j true × SkipsTold s at f k true) (range_with_len 0 fields) 0 (length (range_with_len 0 fields))) No
+    → LacksTold s at i r × LacksTold s at j r × LacksTold s at k r
+lacks_so s at i j k fields true No all m =
+    let each : (f : ℕ) → f < fields → SkipsTold s at f i true × SkipsTold s at f j true × SkipsTold s at f k true = λ (f : ℕ) (here : f < fields).
+    rw (get_or-range_with_len 0 fields f 0 here, zero-add f) at (m f 0 (omega arith) (rw (length-range_with_len 0 fields) here)) in (
+      record { is = λ e. without_all s at i fields all (λ f b. (each f b).0) },
+      record { is = λ e. without_all s at j fields all (λ f b. (each f b).1) },
+      record { is = λ e. without_all s at k fields all (λ f b. (each f b).2) },
+    )
+lacks_so s at i j k fields false No all m = (lacks_no s at i, lacks_no s at j, lacks_no s at k)
 
 gone : (s : List ℕ) (at k : ℕ) (x : Bool) → LacksTold s at k x → x ≡ true → is_empty s at k ≡ true
 gone s at k x told all = empty_yes s at k 0 (sym (ap length (told.is all))) refl

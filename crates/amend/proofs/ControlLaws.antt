@@ -1,25 +1,23 @@
 -- The controls as they are read, and the list that each means: one law for each way through the code. Assumes nothing.
 use Prim.Native.Nat.{ℕ, suc, ◌+◌, ◌*◌, ◌≤◌, ◌<◌}
-use mathlib.Core.Bool.{true, false, cond, ◌||◌}
 use mathlib.Core.List.{List, [], ◌∷◌}
-use mathlib.Core.Logic.{◌⊎◌, ⊎_elim}
+use mathlib.Core.Logic.{⊎_elim}
 use mathlib.Core.Option.{none, some}
 use mathlib.Core.Path.{◌≡◌, refl, sym, ap, ◌∙◌}
 use native.Mathlib.Nat.{zero-add}
 use native.Mathlib.Omega.{arith}
 use lib.ListN.{length}
-use lib.Dec.{eqb}
-use borrow.Author.Tests.{eq-eqb, ne_eqb}
+use borrow.Author.Tests.{ne_eqb}
+use Rattle.std.specs.Prelude.{Some, None}
 use Rattle.octets.specs.Number.{byte_at, num_at}
 use Rattle.octets.specs.Premises.{Reads}
 use Rattle.octets.specs.Area.{Has, Wrote}
 use Rattle.octets.proofs.AreaLaws.{wrote_has}
 use Rattle.table.specs.Table.{SG2D, SG3D}
 use Rattle.items.specs.Lists.{list_at}
-use Rattle.splice.specs.declared.control.Control.{Control}
 use Rattle.splice.specs.Given.{option_of, Given}
 use Rattle.changes.specs.Change.{control_from, control_at}
-use Rattle.amend.specs.Controls.{ControlSize, coordinates_by, chosen}
+use Rattle.amend.specs.Controls.{ControlSize, coordinates_by}
 
 -- ---- a control read
 pub control_room : (s : List ℕ) (at k : ℕ) (join : List ℕ) → ControlSize s at k → 5 ≤ length join → 0 + length (list_at s at k) ≤ length join
@@ -31,10 +29,9 @@ unfolding control_from
 none_from [] e = refl
 none_from (b ∷ bs) e = absurd (omega arith)
 
-pub control_none : (s : List ℕ) (at k : ℕ) {a b : List ℕ} {r : ℕ} (c : Control) → Wrote a 0 (list_at s at k) b r → r ≡ 0
-    → c ≡ record { there = false; instruction = 0; index = 0; count = 0 } → option_of c ≡ control_at s at k
+pub control_none : (s : List ℕ) (at k : ℕ) {a b : List ℕ} {r : ℕ} → Wrote a 0 (list_at s at k) b r → r ≡ 0 → option_of None ≡ control_at s at k
 unfolding option_of control_at
-control_none s at k c w z is = rw is (none_from (list_at s at k) (omega (arith, w.end)))
+control_none s at k w z = none_from (list_at s at k) (omega (arith, w.end))
 
 some_from : (l : List ℕ) → (length l ≡ 0 → ⊥) → control_from l ≡ some (record { instruction = byte_at l 0; index = num_at l 1 2; count = num_at l 3 2 })
 unfolding control_from
@@ -49,7 +46,7 @@ two_at {s} {l} i h less =
     rw (a, b)
 
 pub control_some : (s : List ℕ) (at k : ℕ) {a b : List ℕ} {r x y z : ℕ} → ControlSize s at k → Wrote a 0 (list_at s at k) b r → (r ≡ 0 → ⊥)
-    → Reads b 0 1 x → Reads b 1 2 y → Reads b 3 2 z → option_of (record { there = true; instruction = x; index = y; count = z }) ≡ control_at s at k
+    → Reads b 0 1 x → Reads b 1 2 y → Reads b 3 2 z → option_of (Some (record { instruction = x; index = y; count = z })) ≡ control_at s at k
 unfolding option_of control_at num_at
 control_some s at k {a} {b} {r} {x} {y} {z} size w ne first second third =
     let l = list_at s at k in
@@ -60,7 +57,7 @@ control_some s at k {a} {b} {r} {x} {y} {z} size w ne first second third =
     let ez : z ≡ num_at l 3 2 = third.is ∙ two_at 3 h (omega arith) in
     rw (ex, ey, ez) (sym (some_from l (λ (e : length l ≡ 0). omega arith)))
 
-pub control_given : {b : List ℕ} {x y z : ℕ} → Reads b 1 2 y → Reads b 3 2 z → Given (record { there = true; instruction = x; index = y; count = z })
+pub control_given : {b : List ℕ} {x y z : ℕ} → Reads b 1 2 y → Reads b 3 2 z → Given (record { instruction = x; index = y; count = z })
 control_given second third = record { low = let s = second.small in omega arith; few = let s = third.small in omega arith }
 
 -- ---- the list that SGCC means
@@ -82,31 +79,3 @@ module _ (cell : List ℕ) (at : ℕ) (update : List ℕ) (by a : ℕ) (pairs : 
       pub means_come : (c ≡ 0 → ⊥) → SG3D ≡ coordinates_by cell at update by
       unfolding coordinates_by
       means_come ne = rw (← pairs, none_held, ← soundings, neither, ← come, ne_eqb c 0 ne)
-
--- ---- the control of a list
-module _ (k : ℕ) (first second : Control) (coordinates : ℕ) where
-  pub chosen_points : k ≡ 6 → option_of first ≡ chosen k (option_of first) (option_of second) coordinates
-  unfolding chosen
-  chosen_points e = rw e
-
-  module _ (a : k ≡ 6 → ⊥) where
-    pub chosen_objects : k ≡ 15 → option_of first ≡ chosen k (option_of first) (option_of second) coordinates
-    unfolding chosen
-    chosen_objects e = rw e
-
-    module _ (b : k ≡ 15 → ⊥) where
-      rest : chosen k (option_of first) (option_of second) coordinates ≡ cond (eqb k 17 || eqb k coordinates) (option_of second) none
-      unfolding chosen
-      rest = rw (ne_eqb k 6 a, ne_eqb k 15 b)
-
-      pub chosen_spatial : k ≡ 17 → option_of second ≡ chosen k (option_of first) (option_of second) coordinates
-      chosen_spatial e = sym (rest ∙ rw (eq-eqb k 17 e))
-
-      module _ (d : k ≡ 17 → ⊥) where
-        pub chosen_coordinates : k ≡ coordinates → option_of second ≡ chosen k (option_of first) (option_of second) coordinates
-        chosen_coordinates e = sym (rest ∙ rw (ne_eqb k 17 d, eq-eqb k coordinates e))
-
-        pub chosen_none : (c : Control) → (k ≡ coordinates → ⊥) → c ≡ record { there = false; instruction = 0; index = 0; count = 0 }
-            → option_of c ≡ chosen k (option_of first) (option_of second) coordinates
-        unfolding option_of
-        chosen_none c ne e = rw e (sym (rest ∙ rw (ne_eqb k 17 d, ne_eqb k coordinates ne)))

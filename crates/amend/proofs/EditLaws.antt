@@ -9,8 +9,9 @@ use native.Mathlib.Omega.{arith}
 use lib.ListN.{length}
 use lib.Dec.{eqb}
 use borrow.Author.Tests.{eqb-true}
+use Rattle.std.specs.Prelude.{Option, Some, None, is_none}
 use Rattle.octets.specs.Area.{Wrote}
-use Rattle.octets.proofs.AreaLaws.{wrote_as, wrote_length}
+use Rattle.octets.proofs.AreaLaws.{wrote_as}
 use Rattle.octets.proofs.Cases.{true_or_false}
 use Rattle.entries.specs.declared.Shape.{Shape}
 use Rattle.entries.specs.Entries.{entries_of}
@@ -31,17 +32,18 @@ use Rattle.edits.proofs.OnePassLaws.{one_pass_lem, one_pass_finds}
 use Rattle.splice.specs.declared.control.Control.{Control}
 use Rattle.splice.specs.Given.{option_of}
 use Rattle.splice.specs.Put.{Two, ListPut}
+use Rattle.splice.proofs.PutLaws.{put_yes}
 use Rattle.labelled.specs.Table.{Labelled, Blank}
 use Rattle.changes.specs.Change.{amendment_at, edit_of}
 use Rattle.amend.specs.declared.lists.Split.{Split}
 use Rattle.amend.specs.Sides.{Sides, list_bytes, Picked, Areas, SideBySide, front_of, back_of, may_put, put_of, Ready, StaysTold}
 
 -- the same list, whatever its verdict and its bytes are called
-pub put_as : {may : Bool} {bytes area next : List ℕ} {at r : ℕ} (might : Bool) (same : List ℕ) → ListPut may bytes area at next r → might ≡ may → (might ≡ true → same ≡ bytes)
-    → ListPut might same area at next r
+pub put_as : {may : Bool} {bytes area next : List ℕ} {at : ℕ} {r : Option ℕ} (might : Bool) (same : List ℕ) → ListPut may bytes area at next r
+    → might ≡ may → (might ≡ true → same ≡ bytes) → ListPut might same area at next r
 put_as might same p m b = record {
-  no = λ (f : might ≡ false). p.no (sym m ∙ f);
-  yes = λ (t : might ≡ true). rw (b t) (p.yes (sym m ∙ t));
+  no = λ e. m ∙ p.no e;
+  yes = λ e is. let y = p.yes e is in let t : might ≡ true = m ∙ y.0 in (t, rw (b t) y.1);
   size = p.size;
 }
 
@@ -55,11 +57,11 @@ attribute_shape k is =
     (true_or_false (eqb k 4))
 
 -- ---- by the kind: what the callees take and promise
-module _ {k : ℕ} {c : Control} {old new : List ℕ} (ready : Ready k c old new) (b : Bool) (told : b ≡ is_attributes k) where
+module _ {k : ℕ} {c : Option Control} {old new : List ℕ} (ready : Ready k c old new) (b : Bool) (told : b ≡ is_attributes k) where
   pub ready_labels : b ≡ true → Labelled old new
   ready_labels is = ready.labels (sym told ∙ is)
 
-  pub put_labels : {a d : List ℕ} {at r : ℕ} → b ≡ true
+  pub put_labels : {a d : List ℕ} {at : ℕ} {r : Option ℕ} → b ≡ true
       → ListPut (findable label_of is_removal (entries_of attribute old) (entries_of attribute new))
       (flatten (one_pass label_of is_removal (entries_of attribute old) (entries_of attribute new))) a at d r
       → ListPut (may_put k (option_of c) (entries_of (shape_of k) old) (entries_of (shape_of k) new))
@@ -67,7 +69,7 @@ module _ {k : ℕ} {c : Control} {old new : List ℕ} (ready : Ready k c old new
   unfolding may_put put_of
   put_labels is p = let t = sym told ∙ is in rw (attribute_shape k t, t) p
 
-  pub put_control : {a d : List ℕ} {at r : ℕ} (sh : Shape) → b ≡ false → sh ≡ shape_of k
+  pub put_control : {a d : List ℕ} {at : ℕ} {r : Option ℕ} (sh : Shape) → b ≡ false → sh ≡ shape_of k
       → ListPut (list_allowed (option_of c) (length (entries_of sh old)) (length (entries_of sh new)))
       (flatten (list_edited (option_of c) (entries_of sh old) (entries_of sh new))) a at d r
       → ListPut (may_put k (option_of c) (entries_of (shape_of k) old) (entries_of (shape_of k) new))
@@ -75,7 +77,7 @@ module _ {k : ℕ} {c : Control} {old new : List ℕ} (ready : Ready k c old new
   unfolding may_put put_of
   put_control sh is e p = let f = sym told ∙ is in rw (f, ← e) p
 
-pub ready_two : {k : ℕ} {c : Control} {old new : List ℕ} (sh : Shape) → Ready k c old new → sh ≡ shape_of k → Two sh old new
+pub ready_two : {k : ℕ} {c : Option Control} {old new : List ℕ} (sh : Shape) → Ready k c old new → sh ≡ shape_of k → Two sh old new
 ready_two sh ready e = rw e ready.two
 
 -- ---- the entries of a list
@@ -105,7 +107,7 @@ module _ {cell : List ℕ} {at : ℕ} {update : List ℕ} {by : ℕ} (sides : Si
     unfolding lists_edited
     pass_is may = rw is (one_pass_lem label_of is_removal (list_of cell at k) (list_of update by k) held_apart brought_apart (sym found_is ∙ may))
 
-  module _ {k : ℕ} {c : Control} (pick : Picked cell at update by k c) where
+  module _ {k : ℕ} {c : Option Control} (pick : Picked cell at update by k c) where
     labels_ready : is_attributes k ≡ true → Labelled (list_at cell at k) (list_at update by k)
     unfolding entries_at
     labels_ready is =
@@ -161,7 +163,7 @@ module _ {cell : List ℕ} {at : ℕ} {update : List ℕ} {by : ℕ} (sides : Si
           → place + (length (front_of join s) + length (back_of join s)) ≤ room
       joined_room place room h = rw (side.first, side.second) h
 
-      pub joined_put : {a d : List ℕ} {place r : ℕ}
+      pub joined_put : {a d : List ℕ} {place : ℕ} {r : Option ℕ}
           → ListPut (may_put k (option_of c) (entries_of (shape_of k) (front_of join s)) (entries_of (shape_of k) (back_of join s)))
           (flatten (put_of k (option_of c) (entries_of (shape_of k) (front_of join s)) (entries_of (shape_of k) (back_of join s)))) a place d r
           → ListPut (allowed_at (edit_of (amendment_at update by)) (item_at cell at).lists k) (list_bytes cell at update by k) a place d r
@@ -175,15 +177,13 @@ module _ {cell : List ℕ} {at : ℕ} {update : List ℕ} {by : ℕ} (sides : Si
 stays_never : (b : Bool) → b ≡ true → b ≡ false → ⊥
 stays_never b t f = let e : true ≡ false = sym t ∙ f in let z : ◌≡◌ {A = ℕ} 0 1 = cc in omega arith
 
-pub stays_not : (update : List ℕ) (by k : ℕ) (c : Control) → StaysTold update by k c false
-stays_not update by k c = record {
-  free = λ (e : false ≡ true). absurd (stays_never false e refl);
-  bare = λ (e : false ≡ true). absurd (stays_never false e refl);
-}
-
-pub stays_by : {update : List ℕ} {by k : ℕ} {c : Control} (n : ℕ) → c.there ≡ false → n ≡ length (list_at update by k) → StaysTold update by k c (eqb n 0)
+none_of : (c : Option Control) → is_none c ≡ true → option_of c ≡ none
 unfolding option_of
-stays_by n off long = record { free = λ (t : eqb n 0 ≡ true). rw off; bare = λ (t : eqb n 0 ≡ true). sym long ∙ eqb-true n 0 t }
+none_of None h = refl
+none_of (Some c) h = absurd (stays_never false h refl)
+
+pub stays_by : {update : List ℕ} {by k : ℕ} {c : Option Control} (n : ℕ) → is_none c ≡ true → n ≡ length (list_at update by k) → StaysTold update by k c (eqb n 0)
+stays_by {c = c} n off long = record { free = λ (t : eqb n 0 ≡ true). none_of c off; bare = λ (t : eqb n 0 ≡ true). sym long ∙ eqb-true n 0 t }
 
 pub stays_room : (place old new n : ℕ) → place + (old + new) ≤ n → place + old ≤ n
 stays_room place old new n h = omega arith
@@ -192,7 +192,7 @@ no_bytes : (l : List ℕ) → length l ≡ 0 → l ≡ []
 no_bytes [] e = refl
 no_bytes (b ∷ bs) e = absurd (omega arith)
 
-module _ {cell : List ℕ} {at : ℕ} {update : List ℕ} {by : ℕ} (sides : Sides cell at update by) {k : ℕ} {c : Control} (pick : Picked cell at update by k c) {b : Bool}
+module _ {cell : List ℕ} {at : ℕ} {update : List ℕ} {by : ℕ} (sides : Sides cell at update by) {k : ℕ} {c : Option Control} (pick : Picked cell at update by k c) {b : Bool}
     (told : StaysTold update by k c b) (yes : b ≡ true) where
   nothing_comes : list_of update by k ≡ []
   unfolding entries_at
@@ -220,12 +220,8 @@ module _ {cell : List ℕ} {at : ℕ} {update : List ℕ} {by : ℕ} (sides : Si
   stays_bytes = ap flatten stays_same ∙ list_bytes_lem cell at k sides.old pick.list
 
   pub stays_put : {a d : List ℕ} {place r : ℕ} → Wrote a place (list_at cell at k) d r
-      → ListPut (allowed_at (edit_of (amendment_at update by)) (item_at cell at).lists k) (list_bytes cell at update by k) a place d r
-  stays_put w = record {
-    no = λ (f : allowed_at (edit_of (amendment_at update by)) (item_at cell at).lists k ≡ false). absurd (stays_never _ stays_allowed f);
-    yes = λ _. wrote_as (list_bytes cell at update by k) (sym stays_bytes) w;
-    size = wrote_length w;
-  }
+      → ListPut (allowed_at (edit_of (amendment_at update by)) (item_at cell at).lists k) (list_bytes cell at update by k) a place d (Some r)
+  stays_put w = put_yes stays_allowed (wrote_as (list_bytes cell at update by k) (sym stays_bytes) w)
 
 pub sides_areas : {was join before table : List ℕ} → Areas was before → length join ≡ length was → Blank table → Areas join table
 sides_areas areas size zero = record { wide = rw size areas.wide; zero = zero }

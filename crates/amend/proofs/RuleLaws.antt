@@ -2,7 +2,6 @@
 use Prim.Native.Nat.{ℕ, zero, suc, ◌+◌, ◌≤◌, ◌<◌}
 use mathlib.Core.Bool.{Bool, true, false, not, ◌&&◌}
 use mathlib.Core.List.{List, [], ◌∷◌, flatten}
-use mathlib.Core.Logic.{⊎_elim}
 use mathlib.Core.Path.{◌≡◌, refl, sym, ap, ◌∙◌}
 use native.Mathlib.Numerals.{add-one}
 use native.Mathlib.Omega.{arith}
@@ -10,7 +9,7 @@ use lib.ListN.{length, drop, get_or, drop_of_length-le}
 use lib.Seq.{drop-cons}
 use lib.Dec.{eqb}
 use borrow.Author.Tests.{eq-eqb, ne_eqb}
-use Rattle.octets.proofs.Cases.{eq_or_ne}
+use Rattle.std.specs.Prelude.{Option, IfSome, Some, None, is_some}
 use Rattle.octets.proofs.Tests.{told_no, told_yes, and_no}
 use Rattle.entries.specs.Entries.{entries_of}
 use Rattle.entries.specs.Rules.{all_of}
@@ -60,7 +59,7 @@ unfolding row_of table
 vector_four = record { four = refl; each = four (λ i. (row_of (get_or (ATTV ∷ VRPT ∷ SG2D ∷ SG3D ∷ []) i 0)).list ≡ true) refl refl refl refl }
 
 -- ---- the controls, by the class as it was read
-module _ (update : List ℕ) (by rcnm : ℕ) (c : Control) (read : rcnm ≡ rcnm_at update by) where
+module _ (update : List ℕ) (by rcnm : ℕ) (c : Option Control) (read : rcnm ≡ rcnm_at update by) where
   pub first_feature : rcnm ≡ 100 → option_of c ≡ control_at update by 14 → option_of c ≡ (amendment_at update by).first
   unfolding is_feature
   first_feature e is = rw (eq-eqb (rcnm_at update by) 100 (sym read ∙ e)) is
@@ -105,18 +104,17 @@ module _ {cell : List ℕ} {at : ℕ} {update : List ℕ} {by : ℕ} (sides : Si
   means_same =
       rw (none_is cell at SG2D sides.old pairs_list, none_is cell at SG3D sides.old soundings_list, none_is update by SG3D sides.new soundings_list)
 
-  pub plan_picked : {plan : Plan} (k : ℕ) (c : Control) → PlanFor cell at update by plan → (row_of k).list ≡ true
-      → (option_of c ≡ chosen k (option_of plan.first) (option_of plan.second) plan.coordinates) × Given c → Picked cell at update by k c
+  pub plan_picked : {plan : Plan} (k : ℕ) (c : Option Control) → PlanFor cell at update by plan → (row_of k).list ≡ true
+      → (option_of c ≡ chosen k (option_of plan.first) (option_of plan.second) plan.coordinates) × IfSome c Given → Picked cell at update by k c
   unfolding chosen control_of
   plan_picked k c for list (is, small) =
       let known = for.controlled in
       record { list = list; small = small; is = is ∙ rw (known.first_is, known.second_is, known.means, ← means_same) }
 
 -- ---- the answer of the writer as a verdict
-pub verdict_put : {may : Bool} {bytes area next : List ℕ} {r : ℕ} → ListPut may bytes area 1 next r → not (eqb r 0) ≡ may
-verdict_put {r = r} p =
-    ⊎_elim (λ (e : r ≡ 0). rw (eq-eqb r 0 e) (sym (put_refused p (omega arith) e))) (λ (ne : r ≡ 0 → ⊥). rw (ne_eqb r 0 ne) (sym (put_allowed p ne)))
-    (eq_or_ne r 0)
+pub verdict_put : {may : Bool} {bytes area next : List ℕ} {at : ℕ} {r : Option ℕ} → ListPut may bytes area at next r → is_some r ≡ may
+verdict_put {r = None} p = sym (put_refused p refl)
+verdict_put {r = Some e} p = sym (put_allowed p refl)
 
 -- ---- four lists: the answer from list i on is the answer
 module _ (kinds : List ℕ) (u : Edit) (held : ℕ → List (List ℕ)) (i : ℕ) (so : lists_allowed kinds u held ≡ lists_allowed (drop i kinds) u held) (long : length kinds ≡ 4) where
@@ -139,7 +137,7 @@ pub four_kind : {cell : List ℕ} {at : ℕ} {update : List ℕ} {by : ℕ} {pla
 four_kind i for here = for.lists.each i here
 
 pub kind_room : {cell : List ℕ} {at : ℕ} {update : List ℕ} {by : ℕ} (k room : ℕ) → Sides cell at update by → 199999 ≤ room
-    → 1 + (length (list_at cell at k) + length (list_at update by k)) ≤ room
+    → 0 + (length (list_at cell at k) + length (list_at update by k)) ≤ room
 kind_room k room sides h = omega (arith, sides.old_few k, sides.new_few k)
 
 -- ---- both records and the areas, as the readers of the controls ask for them
@@ -167,8 +165,8 @@ planned_for rcnm means c read kinds coordinates both = record {
   };
 }
 
-pub both_read : {update : List ℕ} {by : ℕ} {first second : Control} → (option_of first ≡ (amendment_at update by).first) × Given first
-    → (option_of second ≡ (amendment_at update by).second) × Given second → BothRead update by (record { first = first; second = second })
+pub both_read : {update : List ℕ} {by : ℕ} {first second : Option Control} → (option_of first ≡ (amendment_at update by).first) × IfSome first Given
+    → (option_of second ≡ (amendment_at update by).second) × IfSome second Given → BothRead update by (record { first = first; second = second })
 both_read f s = record { first_is = f.0; second_is = s.0; first_small = f.1; second_small = s.1 }
 
 pub allowed_kinds : {cell : List ℕ} {at : ℕ} {update : List ℕ} {by : ℕ} {plan : Plan} (u : Edit) (held : ℕ → List (List ℕ)) (b : Bool) → PlanFor cell at update by plan

@@ -1,5 +1,5 @@
 -- A record of the cell and the modify that names it: what the edit of all lists takes. Nothing here need be believed. Assumes nothing.
-use Rattle.std.specs.Prelude.{ℕ, ◌<◌, true, List, ◌≡◌, length, get_or}
+use Rattle.std.specs.Prelude.{ℕ, ◌<◌, true, List, ◌≡◌, length, get_or, Option, IfSome}
 use Rattle.table.specs.Table.{row_of, VRPC, SGCC, FFPC, FSPC}
 use Rattle.items.specs.Premises.{Identified}
 use Rattle.items.specs.Identity.{rcnm_at}
@@ -26,15 +26,15 @@ pub record Paired (cell : List ℕ) (at : ℕ) (update : List ℕ) (by : ℕ) : 
 pub record BothRead (update : List ℕ) (by : ℕ) (c : Controls) : Type 0 where
   pub first_is : option_of c.first ≡ (amendment_at update by).first
   pub second_is : option_of c.second ≡ (amendment_at update by).second
-  pub first_small : Given c.first
-  pub second_small : Given c.second
+  pub first_small : IfSome c.first Given
+  pub second_small : IfSome c.second Given
 
 -- with the list that SGCC means
-pub record Controlled (cell : List ℕ) (at : ℕ) (update : List ℕ) (by : ℕ) (first second : Control) (coordinates : ℕ) : Type 0 where
+pub record Controlled (cell : List ℕ) (at : ℕ) (update : List ℕ) (by : ℕ) (first second : Option Control) (coordinates : ℕ) : Type 0 where
   pub first_is : option_of first ≡ (amendment_at update by).first
   pub second_is : option_of second ≡ (amendment_at update by).second
-  pub first_small : Given first
-  pub second_small : Given second
+  pub first_small : IfSome first Given
+  pub second_small : IfSome second Given
   pub means : coordinates ≡ coordinates_by cell at update by
 
 -- four kinds, each of them a list

@@ -1,6 +1,7 @@
 -- A record of the cell and a record of the update that names it, as the code takes them, and the areas that it is lent. Nothing here need be
 -- believed. Assumes nothing.
-use Rattle.std.specs.Prelude.{ℕ, ◌-◌, ◌≤◌, ◌<◌, Bool, true, cond, ◌≡◌, length, get_or, take, drop}
+use Rattle.std.specs.Prelude as code
+use Rattle.std.specs.Prelude.{ℕ, ◌-◌, ◌≤◌, ◌<◌, Bool, true, cond, ◌≡◌, length, get_or, take, drop, IfSome}
 use mathlib.Core.List.{List, flatten}
 use Rattle.std.proofs.Math.Option.{Option, none}
 use Rattle.table.specs.Table.{row_of}
@@ -34,9 +35,9 @@ abbrev pub list_bytes : List ℕ → ℕ → List ℕ → ℕ → ℕ → List �
 list_bytes cell at update by k = flatten (lists_edited (edit_of (amendment_at update by)) (item_at cell at).lists k)
 
 -- k is a list, and c its control
-pub record Picked (cell : List ℕ) (at : ℕ) (update : List ℕ) (by k : ℕ) (c : Control) : Type 0 where
+pub record Picked (cell : List ℕ) (at : ℕ) (update : List ℕ) (by k : ℕ) (c : code.Option Control) : Type 0 where
   pub list : (row_of k).list ≡ true
-  pub small : Given c
+  pub small : IfSome c Given
   pub is : option_of c ≡ control_of (edit_of (amendment_at update by)) (item_at cell at).lists k
 
 -- the area where two lists stand side by side, and the table of labels, which is zero
@@ -71,12 +72,12 @@ unfoldable pub put_of : ℕ → Option edits.Control → List (List ℕ) → Lis
 put_of k c held brought = cond (is_attributes k) (one_pass label_of is_removal held brought) (list_edited c held brought)
 
 -- two lists of bytes that can be edited so
-pub record Ready (k : ℕ) (c : Control) (old new : List ℕ) : Type 0 where
-  pub small : Given c
+pub record Ready (k : ℕ) (c : code.Option Control) (old new : List ℕ) : Type 0 where
+  pub small : IfSome c Given
   pub two : Two (shape_of k) old new
   pub labels : is_attributes k ≡ true → Labelled old new
 
 -- where r is true, no control acts on list k, and nothing comes to it
-pub record StaysTold (update : List ℕ) (by k : ℕ) (c : Control) (r : Bool) : Type 0 where
+pub record StaysTold (update : List ℕ) (by k : ℕ) (c : code.Option Control) (r : Bool) : Type 0 where
   pub free : r ≡ true → option_of c ≡ none
   pub bare : r ≡ true → length (list_at update by k) ≡ 0

@@ -2,7 +2,6 @@
 // that the update brings, which are copied side by side into an area first.
 ghost use Rattle.std.specs.Prelude.{◌+◌, ◌≤◌, true, ◌≡◌, length};
 ghost use mathlib.Core.List.{flatten};
-ghost use Rattle.iso8211.specs.Premises.{HeadOf};
 ghost use Rattle.fieldvalue.specs.Value.{is_attributes};
 ghost use Rattle.table.specs.Table.{row_of};
 ghost use Rattle.entries.specs.Entries.{entries_of};
@@ -10,7 +9,6 @@ ghost use Rattle.layout.specs.Layout.{shape_of};
 ghost use Rattle.items.specs.Lists.{list_at};
 ghost use Rattle.items.specs.Item.{item_at};
 ghost use Rattle.edits.specs.Lists.{allowed_at};
-ghost use Rattle.lying.specs.Lying.{Lain};
 ghost use Rattle.splice.specs.Given.{option_of};
 ghost use Rattle.splice.specs.Put.{ListPut};
 ghost use Rattle.labelled.specs.Table.{Blank};
@@ -21,10 +19,9 @@ ghost use Rattle.items.specs.Premises.{LaidOut};
 
 use crate::control::control_for;
 use crate::plan::Plan;
-use iso8211::field::Head;
 use items::shape::shape_of;
 use labelled::labels::put_attributes;
-use lying::{PLACES, put_lying, total_lying};
+use lying::Lists;
 use splice::control::Control;
 use splice::list::put_spliced;
 use table::kinds;
@@ -33,13 +30,7 @@ use table::kinds;
 pub fn is_attributes(k: usize) -> bool
     ensures { result ≡ is_attributes k }
 {
-    if k == kinds::ATTV {
-        return true;
-    }
-    if k == kinds::ATTF {
-        return true;
-    }
-    k == kinds::NATF
+    k == kinds::ATTV || k == kinds::ATTF || k == kinds::NATF
 }
 
 // Where the cell's bytes of a list end and where the update's do, which stand behind them.
@@ -50,38 +41,29 @@ pub struct Split {
 }
 
 // The bytes of list k of the cell's record and of the update's, side by side at the front of an area.
-fn put_sides(
-    cell: &[u8],
-    at: usize,
-    hc: Head,
-    lc: &[usize; PLACES],
-    update: &[u8],
-    by: usize,
-    hu: Head,
-    lu: &[usize; PLACES],
-    k: usize,
-    join: &mut [u8],
-) -> Split
-    requires { LaidOut cell.now at × HeadOf cell.now at hc × Lain cell.now at lc.now × LaidOut update.now by × HeadOf update.now by hu
-        × Lain update.now by lu.now × (length (list_at cell.now at k) + length (list_at update.now by k) ≤ length join.old) }
-    ensures { SideBySide (list_at cell.now at k) (list_at update.now by k) join.new result }
+fn put_sides(cell: &Lists, update: &Lists, k: usize, join: &mut [u8]) -> Split
+    requires { LaidOut cell.now.record.file.now cell.now.record.at × LaidOut update.now.record.file.now update.now.record.at
+        × (length (list_at cell.now.record.file.now cell.now.record.at k) + length
+        (list_at update.now.record.file.now update.now.record.at k) ≤ length join.old) }
+    ensures { SideBySide (list_at cell.now.record.file.now cell.now.record.at k)
+        (list_at update.now.record.file.now update.now.record.at k) join.new result }
 {
-    let held = put_lying(cell, at, hc, lc, k, join, 0);
-    let all = put_lying(update, by, hu, lu, k, join, held);
+    let held = cell.put(k, join, 0);
+    let all = update.put(k, join, held);
     Split { held, all }
 }
 
 // The edited list of kind k from the two that stand side by side, written from `place` on: where it
-// ends, or 0 where it may not be edited so.
+// ends; none where it may not be edited so.
 fn put_joined(
     join: &[u8],
     s: Split,
     k: usize,
-    c: Control,
+    c: Option<Control>,
     table: &mut [u32],
     room: &mut [u8],
     place: usize,
-) -> usize
+) -> Option<usize>
     requires { Ready k c (front_of join.now s) (back_of join.now s) × Blank table.old × (s.held ≤ s.all) × (s.all ≤ length join.now)
         × (place + (length (front_of join.now s) + length (back_of join.now s)) ≤ length room.old) }
     ensures { ListPut (may_put k (option_of c) (entries_of (shape_of k) (front_of join.now s)) (entries_of (shape_of k) (back_of join.now s)))
@@ -99,78 +81,63 @@ fn put_joined(
 }
 
 // Whether no control acts on list k, and the update's record brings nothing to it.
-fn stays(update: &[u8], by: usize, hu: Head, lu: &[usize; PLACES], k: usize, c: Control) -> bool
-    requires { LaidOut update.now by × HeadOf update.now by hu × Lain update.now by lu.now }
-    ensures { StaysTold update.now by k c result }
+fn stays(update: &Lists, k: usize, c: Option<Control>) -> bool
+    requires { LaidOut update.now.record.file.now update.now.record.at }
+    ensures { StaysTold update.now.record.file.now update.now.record.at k c result }
 {
-    let there = c.there;
-    if there {
-        return false;
-    }
-    total_lying(update, by, hu, lu, k) == 0
+    c.is_none() && update.total(k) == 0
 }
 
-// The edited list of kind k of the cell's record, written from `place` on: where it ends, or 0 where
+// The edited list of kind k of the cell's record, written from `place` on: where it ends; none where
 // the update's record may not edit it so. A list that stays is copied from where it lies.
 fn put_edited(
-    cell: &[u8],
-    at: usize,
-    hc: Head,
-    lc: &[usize; PLACES],
-    update: &[u8],
-    by: usize,
-    hu: Head,
-    lu: &[usize; PLACES],
+    cell: &Lists,
+    update: &Lists,
     k: usize,
-    c: Control,
+    c: Option<Control>,
     join: &mut [u8],
     table: &mut [u32],
     room: &mut [u8],
     place: usize,
-) -> usize
-    requires { Sides cell.now at update.now by × HeadOf cell.now at hc × Lain cell.now at lc.now × HeadOf update.now by hu
-        × Lain update.now by lu.now × Picked cell.now at update.now by k c
-        × Areas join.old table.old × (place + (length (list_at cell.now at k) + length (list_at update.now by k)) ≤ length room.old) }
-    ensures { ListPut (allowed_at (edit_of (amendment_at update.now by)) (item_at cell.now at).lists k)
-        (list_bytes cell.now at update.now by k) room.old place room.new result
+) -> Option<usize>
+    requires { Sides cell.now.record.file.now cell.now.record.at update.now.record.file.now update.now.record.at
+        × Picked cell.now.record.file.now cell.now.record.at update.now.record.file.now update.now.record.at k c
+        × Areas join.old table.old
+        × (place + (length (list_at cell.now.record.file.now cell.now.record.at k) + length
+        (list_at update.now.record.file.now update.now.record.at k)) ≤ length room.old) }
+    ensures { ListPut (allowed_at (edit_of (amendment_at update.now.record.file.now update.now.record.at))
+        (item_at cell.now.record.file.now cell.now.record.at).lists k)
+        (list_bytes cell.now.record.file.now cell.now.record.at update.now.record.file.now update.now.record.at k) room.old place room.new result
         × Areas join.new table.new }
 {
-    if stays(update, by, hu, lu, k, c) {
-        return put_lying(cell, at, hc, lc, k, room, place);
+    if stays(update, k, c) {
+        return Some(cell.put(k, room, place));
     }
-    let s = put_sides(cell, at, hc, lc, update, by, hu, lu, k, join);
+    let s = put_sides(cell, update, k, join);
     put_joined(join, s, k, c, table, room, place)
 }
 
 // The same by the control that the plan has for list k.
 pub fn put_kind(
-    cell: &[u8],
-    at: usize,
-    hc: Head,
-    lc: &[usize; PLACES],
-    update: &[u8],
-    by: usize,
-    hu: Head,
-    lu: &[usize; PLACES],
+    cell: &Lists,
+    update: &Lists,
     k: usize,
     plan: Plan,
     join: &mut [u8],
     table: &mut [u32],
     room: &mut [u8],
     place: usize,
-) -> usize
-    requires { Sides cell.now at update.now by × HeadOf cell.now at hc × Lain cell.now at lc.now × HeadOf update.now by hu
-        × Lain update.now by lu.now × PlanFor cell.now at update.now by plan × ((row_of k).list ≡ true) × Areas join.old table.old
-        × (place + (length (list_at cell.now at k) + length (list_at update.now by k)) ≤ length room.old) }
-    ensures { ListPut (allowed_at (edit_of (amendment_at update.now by)) (item_at cell.now at).lists k)
-        (list_bytes cell.now at update.now by k) room.old place room.new result
+) -> Option<usize>
+    requires { Sides cell.now.record.file.now cell.now.record.at update.now.record.file.now update.now.record.at
+        × PlanFor cell.now.record.file.now cell.now.record.at update.now.record.file.now update.now.record.at plan
+        × ((row_of k).list ≡ true) × Areas join.old table.old
+        × (place + (length (list_at cell.now.record.file.now cell.now.record.at k) + length
+        (list_at update.now.record.file.now update.now.record.at k)) ≤ length room.old) }
+    ensures { ListPut (allowed_at (edit_of (amendment_at update.now.record.file.now update.now.record.at))
+        (item_at cell.now.record.file.now cell.now.record.at).lists k)
+        (list_bytes cell.now.record.file.now cell.now.record.at update.now.record.file.now update.now.record.at k) room.old place room.new result
         × Areas join.new table.new }
 {
-    let first = plan.first;
-    let second = plan.second;
-    let coordinates = plan.coordinates;
-    let c = control_for(k, first, second, coordinates);
-    put_edited(
-        cell, at, hc, lc, update, by, hu, lu, k, c, join, table, room, place,
-    )
+    let c = control_for(k, plan.first, plan.second, plan.coordinates);
+    put_edited(cell, update, k, c, join, table, room, place)
 }

@@ -1,14 +1,11 @@
 // What a modify edits and by which controls.
 ghost use Rattle.std.specs.Prelude.{◌≤◌, ◌≡◌, length};
-ghost use Rattle.iso8211.specs.Premises.{HeadOf};
-ghost use Rattle.lying.specs.Lying.{Lain};
 ghost use Rattle.changes.specs.Amend.{kinds_of};
 ghost use Rattle.amend.specs.Pairs.{Paired, FourLists, PlanFor};
 
 use crate::control::{controls_of, coordinates_of};
-use iso8211::field::Head;
 use items::identity::rcnm_of;
-use lying::PLACES;
+use lying::Lists;
 use splice::control::Control;
 use table::kinds;
 
@@ -17,8 +14,8 @@ use table::kinds;
 #[derive(Clone, Copy)]
 pub struct Plan {
     pub kinds: [usize; 4],
-    pub first: Control,
-    pub second: Control,
+    pub first: Option<Control>,
+    pub second: Option<Control>,
     pub coordinates: usize,
 }
 
@@ -32,31 +29,19 @@ fn kinds_of(rcnm: u32) -> [usize; 4]
     [kinds::ATTV, kinds::VRPT, kinds::SG2D, kinds::SG3D]
 }
 
-pub fn plan_of(
-    cell: &[u8],
-    at: usize,
-    hc: Head,
-    lc: &[usize; PLACES],
-    update: &[u8],
-    by: usize,
-    hu: Head,
-    lu: &[usize; PLACES],
-    join: &mut [u8],
-) -> Plan
-    requires { Paired cell.now at update.now by × HeadOf cell.now at hc × Lain cell.now at lc.now × HeadOf update.now by hu
-        × Lain update.now by lu.now × (5 ≤ length join.old) }
-    ensures { PlanFor cell.now at update.now by result }
+pub fn plan_of(cell: &Lists, update: &Lists, join: &mut [u8]) -> Plan
+    requires { Paired cell.now.record.file.now cell.now.record.at update.now.record.file.now update.now.record.at
+        × (5 ≤ length join.old) }
+    ensures { PlanFor cell.now.record.file.now cell.now.record.at update.now.record.file.now update.now.record.at result }
 {
-    let rcnm = rcnm_of(cell, at, hc);
+    let rcnm = rcnm_of(&cell.record);
     let kinds = kinds_of(rcnm);
-    let coordinates = coordinates_of(cell, at, hc, lc, update, by, hu, lu);
-    let both = controls_of(update, by, hu, lu, rcnm, join);
-    let first = both.first;
-    let second = both.second;
+    let coordinates = coordinates_of(cell, update);
+    let both = controls_of(update, rcnm, join);
     Plan {
         kinds,
-        first,
-        second,
+        first: both.first,
+        second: both.second,
         coordinates,
     }
 }

@@ -11,7 +11,7 @@ ghost use Rattle.resultstages.specs.Stages.{amended_answer, change_answer, Amend
 
 use amendments::fault::amendments_fault;
 use answers::Answer;
-use answers::answer::filed;
+use answers::answer::of_refusal;
 use answers::refusal::refuse;
 use follow::{follow_code, header_at};
 use resultstages::merged::merged;
@@ -34,10 +34,8 @@ fn amended(
 {
     let held = n - 3;
     let half = held + (m - 2);
-    let r = amendments_fault(cell, update, m, work, half, held, join, table, room);
-    let code = r.code;
-    if code != 0 {
-        return filed(2, r);
+    if let Err(r) = amendments_fault(cell, update, m, work, half, held, join, table, room) {
+        return of_refusal(2, r);
     }
     merged(cell, n, update, m, work, join, table, room, out)
 }
@@ -99,7 +97,7 @@ pub fn changed(
 {
     let code = follow_code(cell, update);
     if code != 0 {
-        return filed(2, refuse(code, 1, header_at(update)));
+        return of_refusal(2, refuse(code, 1, header_at(update)));
     }
     amended_apart(cell, n, update, m, work, out)
 }

@@ -8,12 +8,12 @@ use native.Mathlib.Omega.{arith}
 use lib.ListN.{length, get_or}
 use lib.Dec.{eqb}
 use borrow.Author.Tests.{eqb-true}
+use Rattle.std.specs.Prelude.{Ok}
 use Rattle.octets.proofs.ListLaws.{member_at}
 use Rattle.octets.specs.Number.{byte_at}
 use Rattle.octets.proofs.Cases.{true_or_false, eq_or_ne}
 use Rattle.iso8211.specs.Record.{end_of}
 use Rattle.iso8211.specs.File.{frame_of, record_at}
-use Rattle.iso8211.specs.declared.file.Framed.TheVariants.{Records}
 use Rattle.iso8211.proofs.Promise.{record_in, at_next}
 use Rattle.table.specs.Table.{table, row_of, ATTV, ATTF, NATF, VRPC, SGCC, FFPC, FSPC}
 use Rattle.words.specs.Order.{sorted}
@@ -118,7 +118,7 @@ unfolding name_at
 stand_named stands = stand_name stands
 
 -- ---- no list is longer than a record
-list_few : (s : List ℕ) (n k at : ℕ) → frame_of s ≡ Records n → k < n → at ≡ record_at s k → LaidOut s at → (q : ℕ) → length (list_at s at q) ≤ 99999
+list_few : (s : List ℕ) (n k at : ℕ) → frame_of s ≡ Ok n → k < n → at ≡ record_at s k → LaidOut s at → (q : ℕ) → length (list_at s at q) ≤ 99999
 list_few s n k at framed less e laid q =
     let known = record_in s n k at framed less e in
     let low = known.framed.small in
@@ -161,7 +161,7 @@ module _ {s : List ℕ} {at : ℕ} (known : Controlled s at) where
 
 -- ---- the two files
 module _ {cell : List ℕ} {n : ℕ} {update : List ℕ} {m : ℕ} (readable : Readable false cell n) (told : CellTold cell n) (small : (i : ℕ) → byte_at cell i < 256)
-    (framed : frame_of update ≡ Records m) (given : UpdateTold update m) (small_too : (i : ℕ) → byte_at update i < 256) where
+    (framed : frame_of update ≡ Ok m) (given : UpdateTold update m) (small_too : (i : ℕ) → byte_at update i < 256) where
   word_place_at : (w k : ℕ) → k < n → word_for cell (record_at cell k) ≡ w → word_offset w ≡ record_at cell k
   word_place_at w k less e = ap (λ (v : ℕ). word_offset v) (sym e) ∙ word_offset_lem cell (record_at cell k) (place_small readable k less)
 

@@ -2,7 +2,7 @@
 use Prim.Native.Nat.{ℕ, suc, ◌+◌, ◌-◌, ◌≤◌, ◌<◌}
 use mathlib.Core.Bool.{cond}
 use mathlib.Core.List.{List}
-use mathlib.Core.Path.{◌≡◌, ◌∙◌}
+use mathlib.Core.Path.{◌≡◌, refl, sym, ap, ◌∙◌}
 use native.Mathlib.Omega.{arith}
 use lib.Dec.{eqb}
 use borrow.Author.Tests.{ne_eqb}
@@ -11,7 +11,9 @@ use Rattle.iso8211.specs.Record.{end_of}
 use Rattle.iso8211.specs.Premises.{FramedAt}
 use Rattle.iso8211.specs.File.{record_at}
 use Rattle.iso8211.proofs.Promise.{framed_at, at_next}
-use Rattle.answers.specs.Answer.{refusal, fine}
+use Rattle.std.specs.Prelude.{Ok, Err}
+use Rattle.answers.specs.Answer.{refusal, fine, outcome}
+use Rattle.answers.proofs.OutcomeLaws.{fine_told, some_told}
 use Rattle.answers.specs.declared.refusal.Refusal.{Refusal}
 use Rattle.items.specs.Item.{Item}
 use Rattle.changes.specs.Change.{amendment_at, amendments_from, change_of}
@@ -40,9 +42,10 @@ unfolding amendments_fault amendments_from first_by
 from_none held update k at n e = rw e
 
 module _ (held : List Item) (update : List ℕ) (m k at : ℕ) (j : Judging held update m k at) where
-  pub judging_end : (r : Refusal) → m ≤ k → r ≡ refusal 0 0 0 → r ≡ placed_in update (amendments_fault held 2 (change_of update m).amendments)
+  pub judging_end : m ≤ k → Ok tt ≡ outcome (placed_in update (amendments_fault held 2 (change_of update m).amendments))
   unfolding placed_in
-  judging_end r h e = e ∙ rw (j.so, from_none held update k at (m - k) (omega arith))
+  judging_end h =
+      fine_told (placed_in update (amendments_fault held 2 (change_of update m).amendments)) (rw (j.so, from_none held update k at (m - k) (omega arith)) refl)
 
   -- the record that is due is one that can be judged
   module _ (cell ws : List ℕ) (all : AllAmendable cell ws update m) (less : k < m) where
@@ -57,9 +60,10 @@ module _ (held : List Item) (update : List ℕ) (m k at : ℕ) (j : Judging held
         ≡ cond (eqb code 0) (amendments_fault held (k + 1) (amendments_from (m - (k + 1)) update (end_of update at))) (refusal code k 0)
     here = rw told (from_more held update k at (m - k) (m - (k + 1)) (omega arith))
 
-    pub judging_stop : (r : Refusal) → (code ≡ 0 → ⊥) → r ≡ refusal code k at → r ≡ placed_in update (amendments_fault held 2 (change_of update m).amendments)
+    pub judging_stop : (r : Refusal) → (code ≡ 0 → ⊥) → r ≡ refusal code k at → Err r ≡ outcome (placed_in update (amendments_fault held 2 (change_of update m).amendments))
     unfolding placed_in
-    judging_stop r ne e = e ∙ rw (j.so, here, ne_eqb code 0 ne, ne_eqb code 0 ne, ← j.place)
+    judging_stop r ne e =
+        some_told (e ∙ rw (j.so, here, ne_eqb code 0 ne, ne_eqb code 0 ne, ← j.place)) (λ z. ne (sym (ap (λ (q : Refusal). q.code) e) ∙ z))
 
     pub judging_on : (next : ℕ) → code ≡ 0 → next ≡ end_of update at → Judging held update m (k + 1) next
     judging_on next e is = record {

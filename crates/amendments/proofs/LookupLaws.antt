@@ -3,17 +3,17 @@ use Prim.Native.Nat.{ℕ}
 use mathlib.Core.Bool.{true, false}
 use mathlib.Core.List.{List, [], ◌∷◌}
 use mathlib.Core.Logic.{⊎_elim}
-use mathlib.Core.Option.{Option, none, some}
+use mathlib.Core.Option.{none, some}
+use mathlib.Core.Option as maybe
 use mathlib.Core.Path.{◌≡◌, refl, sym, ap, ◌∙◌}
 use lib.Dec.{eqb}
+use Rattle.std.specs.Prelude.{Option, Some, None}
 use Rattle.octets.proofs.Cases.{true_or_false}
 use Rattle.items.specs.Identity.{name_at}
 use Rattle.items.specs.Word.{name_of, word_offset}
 use Rattle.names.specs.Premises.{Stands, AllStand}
 use Rattle.names.specs.NameWords.{items_at}
 use Rattle.lookups.specs.LookupWords.{lookup}
-use Rattle.lookups.specs.declared.lookup.Found.{Found}
-use Rattle.lookups.specs.declared.lookup.Found.TheVariants.{At, Nothing}
 use Rattle.names.proofs.HeldLaws.{stand_first, stand_rest, stand_name}
 use Rattle.lookups.proofs.LookupLaws.{lookup_told}
 use Rattle.items.specs.Item.{Item, item_at, item_name}
@@ -36,16 +36,16 @@ held_found s (w ∷ ws) name all =
 
 -- ---- the record of the update at `by`: r is what the look-up of its name answered
 module _ (cell ws update : List ℕ) (by : ℕ) (known : Amendable cell ws update by) (name : ℕ) (named : name ≡ name_at update by)
-    (r : Found) (is : r ≡ lookup ws name) where
+    (r : Option ℕ) (is : r ≡ lookup ws name) where
   code_is : amendment_code (items_at cell ws) (amendment_at update by) ≡ found_code (amendment_at update by) (object_found cell r)
   unfolding amendment_code name_at
-  code_is = ap (λ (o : Option Item). found_code (amendment_at update by) o) (held_found cell ws (name_at update by) known.stand ∙ rw (is, named))
+  code_is = ap (λ (o : maybe.Option Item). found_code (amendment_at update by) o) (held_found cell ws (name_at update by) known.stand ∙ rw (is, named))
 
-  pub code_none : r ≡ Nothing → (x : ℕ) → x ≡ found_code (amendment_at update by) none → x ≡ amendment_code (items_at cell ws) (amendment_at update by)
+  pub code_none : r ≡ None → (x : ℕ) → x ≡ found_code (amendment_at update by) none → x ≡ amendment_code (items_at cell ws) (amendment_at update by)
   unfolding object_found
   code_none e x told = told ∙ sym (code_is ∙ rw e)
 
-  module _ (at : ℕ) (found : r ≡ At at) where
+  module _ (at : ℕ) (found : r ≡ Some at) where
     pub code_some : (x : ℕ) → x ≡ found_code (amendment_at update by) (some (item_at cell at)) → x ≡ amendment_code (items_at cell ws) (amendment_at update by)
     unfolding object_found
     code_some x told = told ∙ sym (code_is ∙ rw found)

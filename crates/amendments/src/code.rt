@@ -1,7 +1,6 @@
 // The code of one record of an update: 13 Target, 14 Version, 15 Identity, 16 Edit, or 0.
 ghost use Rattle.std.specs.Prelude.{◌+◌, ◌*◌, ◌≤◌, ◌≡◌, length};
 ghost use Rattle.std.proofs.Math.Option.{none, some};
-ghost use Rattle.iso8211.specs.Premises.{HeadOf};
 ghost use Rattle.words.specs.Words.{words_in};
 ghost use Rattle.items.specs.Premises.{LaidOut, Identified};
 ghost use Rattle.items.specs.Identity.{ruin_at};
@@ -17,22 +16,22 @@ use allowed::brought::{delete_allowed, insert_allowed};
 use allowed::identity::identity_same;
 use allowed::rule::lists_allowed;
 use answers::codes::{EDIT, IDENTITY, TARGET, VERSION};
-use iso8211::field::{Head, head_of};
+use iso8211::field::{Record, head_of};
 use items::identity::{name_of, ruin_of, version_of};
-use lookups::lookup::{Found, lookup};
+use lookups::lookup::lookup;
 
 // The code of a record whose name the cell doesn't hold.
-fn missing_code(update: &[u8], by: usize, h: Head) -> u32
-    requires { LaidOut update.now by × HeadOf update.now by h × Identified update.now by }
-    ensures { result ≡ found_code (amendment_at update.now by) none }
+fn missing_code(update: &Record) -> u32
+    requires { LaidOut update.now.file.now update.now.at × Identified update.now.file.now update.now.at }
+    ensures { result ≡ found_code (amendment_at update.now.file.now update.now.at) none }
 {
-    if ruin_of(update, by, h) != 1 {
+    if ruin_of(update) != 1 {
         return TARGET;
     }
-    if version_of(update, by, h) != 1 {
+    if version_of(update) != 1 {
         return VERSION;
     }
-    if !insert_allowed(update, by, h) {
+    if !insert_allowed(update) {
         return EDIT;
     }
     0
@@ -42,51 +41,52 @@ fn missing_code(update: &[u8], by: usize, h: Head) -> u32
 fn edit_allowed(
     cell: &[u8],
     at: usize,
-    update: &[u8],
-    by: usize,
-    h: Head,
+    update: &Record,
     ruin: u32,
     join: &mut [u8],
     table: &mut [u32],
     room: &mut [u8],
 ) -> bool
-    requires { Paired cell.now at update.now by × HeadOf update.now by h × Identified update.now by × (ruin ≡ ruin_at update.now by)
+    requires { Paired cell.now at update.now.file.now update.now.at × Identified update.now.file.now update.now.at × (ruin ≡ ruin_at update.now.file.now update.now.at)
         × Areas join.old table.old × (199999 ≤ length room.old) }
-    ensures { (result ≡ edit_allowed (amendment_at update.now by) (item_at cell.now at)) × Areas join.new table.new }
+    ensures { (result ≡ edit_allowed (amendment_at update.now.file.now update.now.at) (item_at cell.now at)) × Areas join.new table.new }
 {
     if ruin == 2 {
-        return delete_allowed(update, by, h);
+        return delete_allowed(update);
     }
-    lists_allowed(cell, at, update, by, join, table, room)
+    lists_allowed(cell, at, update.file, update.at, join, table, room)
 }
 
 // The code of a record whose name is that of the cell's record at `at`.
 fn held_code(
     cell: &[u8],
     at: usize,
-    update: &[u8],
-    by: usize,
-    h: Head,
+    update: &Record,
     join: &mut [u8],
     table: &mut [u32],
     room: &mut [u8],
 ) -> u32
-    requires { Paired cell.now at update.now by × HeadOf update.now by h × Identified update.now by × Areas join.old table.old
+    requires { Paired cell.now at update.now.file.now update.now.at × Identified update.now.file.now update.now.at × Areas join.old table.old
         × (199999 ≤ length room.old) }
-    ensures { (result ≡ found_code (amendment_at update.now by) (some (item_at cell.now at))) × Areas join.new table.new }
+    ensures { (result ≡ found_code (amendment_at update.now.file.now update.now.at) (some (item_at cell.now at))) × Areas join.new table.new }
 {
-    let ruin = ruin_of(update, by, h);
+    let ruin = ruin_of(update);
     if ruin == 1 {
         return TARGET;
     }
     let hc = head_of(cell, at);
-    if version_of(update, by, h) != version_of(cell, at, hc) + 1 {
+    let held = Record {
+        file: cell,
+        at,
+        head: hc,
+    };
+    if version_of(update) != version_of(&held) + 1 {
         return VERSION;
     }
-    if !identity_same(update, by, h, cell, at, hc) {
+    if !identity_same(update, &held) {
         return IDENTITY;
     }
-    if !edit_allowed(cell, at, update, by, h, ruin, join, table, room) {
+    if !edit_allowed(cell, at, update, ruin, join, table, room) {
         return EDIT;
     }
     0
@@ -111,8 +111,13 @@ pub fn amendment_code(
         × Areas join.new table.new }
 {
     let h = head_of(update, by);
-    let Found::At(at) = lookup(work, from, n, name_of(update, by, h)) else {
-        return missing_code(update, by, h);
+    let r = Record {
+        file: update,
+        at: by,
+        head: h,
     };
-    held_code(cell, at, update, by, h, join, table, room)
+    let Some(at) = lookup(work, from, n, name_of(&r)) else {
+        return missing_code(&r);
+    };
+    held_code(cell, at, &r, join, table, room)
 }

@@ -2,6 +2,7 @@
 ghost use Rattle.std.specs.Prelude.{◌+◌, ◌*◌, ◌≤◌, ◌≡◌, length};
 ghost use Rattle.words.specs.Words.{words_in};
 ghost use Rattle.names.specs.NameWords.{items_at};
+ghost use Rattle.answers.specs.Answer.{outcome};
 ghost use Rattle.changes.specs.Change.{change_of};
 ghost use Rattle.changes.specs.Amend.{amendments_fault, placed_in};
 ghost use Rattle.amend.specs.Sides.{Areas};
@@ -25,21 +26,19 @@ pub fn amendments_fault(
     join: &mut [u8],
     table: &mut [u32],
     room: &mut [u8],
-) -> Refusal
+) -> Result<(), Refusal>
     requires { AllAmendable cell.now (words_in work.now from n) update.now m × (8 * (from + n) ≤ length work.now) × Areas join.old table.old
         × (199999 ≤ length room.old) }
-    ensures { (result ≡ placed_in update.now (amendments_fault (items_at cell.now (words_in work.now from n)) 2
-        (change_of update.now m).amendments)) × Areas join.new table.new }
+    ensures { (result ≡ outcome (placed_in update.now (amendments_fault (items_at cell.now (words_in work.now from n)) 2
+        (change_of update.now m).amendments))) × Areas join.new table.new }
 {
     let mut at = start_of(update, m, 2);
-    let mut k: usize = 2;
-    while k < m {
+    for k in 2..m {
         let code = amendment_code(cell, update, at, work, from, n, join, table, room);
         if code != 0 {
-            return refuse(code, k, at);
+            return Err(refuse(code, k, at));
         }
         at = record_end(update, at);
-        k += 1;
     }
-    refuse(0, 0, 0)
+    Ok(())
 }

@@ -38,9 +38,6 @@ told_code a b is = ap (λ (x : Answer). x.code) is
 pub code_kept : (k file i num p : ℕ) (a : Answer) → (k ≡ 0 → ⊥) → a ≡ answer k file i num p → a.code ≡ 0 → ⊥
 code_kept k file i num p a ne e z = ne (sym (ap (λ (x : Answer). x.code) e) ∙ z)
 
-pub filed_kept : (file : ℕ) (r : Refusal) (a : Answer) → (r.code ≡ 0 → ⊥) → a ≡ filed file r → a.code ≡ 0 → ⊥
-filed_kept file r a ne e z = ne (filed_told file r (ap (λ (x : Answer). x.code) (sym e) ∙ z))
-
 -- ---- a refusal filed, or what comes on
 module _ (file : ℕ) (r : Refusal) (on a : Answer) where
   pub filed_first : (r.code ≡ 0 → ⊥) → a ≡ filed file r → a ≡ first_answer (filed file r) on

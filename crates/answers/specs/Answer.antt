@@ -1,5 +1,5 @@
 -- A refusal of a file, and an answer of a call. Assumes nothing.
-use Rattle.std.specs.Prelude.{ℕ, cond, eqb}
+use Rattle.std.specs.Prelude.{ℕ, cond, eqb, Result, Ok, Err}
 use Rattle.answers.specs.declared.refusal.Refusal.{Refusal}
 use Rattle.answers.specs.declared.answer.Answer.{Answer}
 
@@ -21,3 +21,12 @@ unrefused = record { code = 0; file = 0; index = 0; number = 0; offset = 0 }
 -- a refusal of this file; code 0 has file, record and number 0
 unfoldable pub filed : ℕ → Refusal → Answer
 filed file r = cond (eqb r.code 0) unrefused (answer r.code file r.index 0 r.offset)
+
+-- ---- how the code tells what a stage refuses: Ok where it is nothing
+unfoldable pub outcome : Refusal → Result Unit Refusal
+outcome r = cond (eqb r.code 0) (Ok tt) (Err r)
+
+-- the answer to it
+unfoldable pub answer_of : ℕ → Result Unit Refusal → Answer
+answer_of file (Ok u) = unrefused
+answer_of file (Err r) = answer r.code file r.index 0 r.offset

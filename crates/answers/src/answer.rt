@@ -1,6 +1,6 @@
 // What a call answers.
 ghost use Rattle.std.specs.Prelude.{◌≡◌};
-ghost use Rattle.answers.specs.Answer.{answer, filed};
+ghost use Rattle.answers.specs.Answer.{answer, answer_of};
 
 use crate::refusal::Refusal;
 
@@ -26,13 +26,19 @@ pub fn answered(code: u32, file: u32, index: usize, number: usize, offset: usize
     }
 }
 
-// A refusal as the answer for its file; no refusal has neither file nor record.
-pub fn filed(file: u32, r: Refusal) -> Answer
-    ensures { result ≡ filed file r }
+// A refusal as the answer for its file.
+pub fn of_refusal(file: u32, r: Refusal) -> Answer
+    ensures { result ≡ answer r.code file r.index 0 r.offset }
 {
-    let code = r.code;
-    if code == 0 {
-        return answered(0, 0, 0, 0, 0);
+    answered(r.code, file, r.index, 0, r.offset)
+}
+
+// The same of a stage; one that refuses nothing has neither file nor record.
+pub fn answer_of(file: u32, r: Result<(), Refusal>) -> Answer
+    ensures { result ≡ answer_of file r }
+{
+    match r {
+        Ok(()) => answered(0, 0, 0, 0, 0),
+        Err(refusal) => of_refusal(file, refusal),
     }
-    answered(code, file, r.index, 0, r.offset)
 }

@@ -11,13 +11,10 @@ use Rattle.answers.specs.declared.answer.Answer.{Answer}
 use Rattle.answers.proofs.FirstLaws.{first_on, first_stays, first_join}
 use Rattle.reader.specs.Reader.{front_of, fronted, records_in, work_answer, cell_fault, update_fault, both_fault}
 use Rattle.reader.specs.Lent.{BothOpened, BothIn}
-use Rattle.reader.specs.declared.front.Front.{Front}
-use Rattle.reader.specs.declared.front.Front.TheVariants.{Count, Refused}
+use Rattle.std.specs.Prelude.{Option, Some, Result, Ok, Err}
 use Rattle.readboth.proofs.CallLaws.{few, front_opened, front_refused, worked_short, worked_on}
 use Rattle.readboth.proofs.BothLaws.{both_apart}
 use Rattle.bothonce.specs.Both.{BothRead, BothTold}
-use Rattle.bothonce.specs.declared.both.Both.{Both}
-use Rattle.bothonce.specs.declared.both.Both.TheVariants.{All}
 use Rattle.bothonce.proofs.TogetherLaws.{both_fine}
 use Rattle.loader.specs.Admit.{area_by, cell_chart}
 use Rattle.loader.specs.Apply.{result_of, apply_of, updated_by, apply_area}
@@ -25,7 +22,7 @@ use Rattle.loader.proofs.AdmitLaws.{area_kept}
 use Rattle.resultstages.specs.Stages.{result_answer, change_answer, BothReady}
 
 -- ---- applied: of an opened cell and an opened update
-module _ (cell : List ℕ) (n : ℕ) (update : List ℕ) (m : ℕ) (first : front_of 1 cell ≡ Count n) (second : front_of 2 update ≡ Count m) where
+module _ (cell : List ℕ) (n : ℕ) (update : List ℕ) (m : ℕ) (first : front_of 1 cell ≡ Ok n) (second : front_of 2 update ≡ Ok m) where
   pub both_few : n + m ≤ 10485760
   both_few = let a = few (front_opened 1 cell n first) in let b = few (front_opened 2 update m second) in omega arith
 
@@ -78,7 +75,7 @@ pub apply_kept : (cell update : List ℕ) (w : ℕ) (out : List ℕ) (a : Answer
 unfolding apply_area
 apply_kept cell update w out a is ne = rw (← is) (area_kept (updated_by (cell_chart cell) update) out a ne)
 
-module _ (cell : List ℕ) (n : ℕ) (update : List ℕ) (front : front_of 1 cell ≡ Count n) (f : Front) (is : f ≡ front_of 2 update) (a : Answer) (told : f ≡ Refused a) where
+module _ (cell : List ℕ) (n : ℕ) (update : List ℕ) (front : front_of 1 cell ≡ Ok n) (f : Result ℕ Answer) (is : f ≡ front_of 2 update) (a : Answer) (told : f ≡ Err a) where
   pub second_refused : (w o : ℕ) → a ≡ apply_of cell update w o
   unfolding apply_of fronted
   second_refused w o = rw (front, ← is, told)
@@ -87,7 +84,7 @@ module _ (cell : List ℕ) (n : ℕ) (update : List ℕ) (front : front_of 1 cel
   second_kept w out = apply_kept cell update w out a (second_refused w (length out)) (front_refused 2 update a (sym is ∙ told))
 
 -- ---- applied_again
-module _ (cell update : List ℕ) (f : Front) (is : f ≡ front_of 1 cell) (a : Answer) (told : f ≡ Refused a) where
+module _ (cell update : List ℕ) (f : Result ℕ Answer) (is : f ≡ front_of 1 cell) (a : Answer) (told : f ≡ Err a) where
   pub first_refused : (w o : ℕ) → a ≡ apply_of cell update w o
   unfolding apply_of fronted
   first_refused w o = rw (← is, told)
@@ -96,7 +93,7 @@ module _ (cell update : List ℕ) (f : Front) (is : f ≡ front_of 1 cell) (a : 
   first_kept w out = apply_kept cell update w out a (first_refused w (length out)) (front_refused 1 cell a (sym is ∙ told))
 
 -- ---- applied_once: of a cell and an update that one pass each read
-pub read_all : {cell update work : List ℕ} {n m : ℕ} (r : Both) → BothTold cell update work r → r ≡ All n m → BothRead cell n update m work
+pub read_all : {cell update work : List ℕ} {n m : ℕ} (r : Option (ℕ × ℕ)) → BothTold cell update work r → r ≡ Some (n, m) → BothRead cell n update m work
 read_all r told e = told.all _ _ e
 
 pub once_ready : {cell update work : List ℕ} {n m : ℕ} → BothRead cell n update m work → ((i : ℕ) → byte_at cell i < 256) → ((i : ℕ) → byte_at update i < 256)

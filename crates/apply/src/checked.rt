@@ -1,5 +1,5 @@
 // Code 3, and the codes of reading both files.
-ghost use Rattle.std.specs.Prelude.{◌≡◌, length};
+ghost use Rattle.std.specs.Prelude.{◌≡◌, Ok, length};
 ghost use Rattle.reader.specs.Reader.{front_of};
 ghost use Rattle.loader.specs.Admit.{area_by};
 ghost use Rattle.loader.specs.Apply.{result_of, apply_of};
@@ -9,7 +9,6 @@ use answers::Answer;
 use answers::answer::answered;
 use answers::codes::{WORK, WORK_EACH};
 use readboth::both::both_fault;
-use reader::front::Front;
 
 // An opened cell of n records and an opened update of m: code 3, then 4 to 8 of the cell, 4 to 7 of the
 // update, then what comes of the two.
@@ -21,7 +20,7 @@ pub fn applied(
     out: &mut [u8],
     work: &mut [u8],
 ) -> Answer
-    requires { (front_of 1 cell.now ≡ Front.Count n) × (front_of 2 update.now ≡ Front.Count m) }
+    requires { (front_of 1 cell.now ≡ Ok n) × (front_of 2 update.now ≡ Ok m) }
     ensures value { result ≡ apply_of cell.now update.now (length work.old) (length out.old) }
     ensures out_after { out.new ≡ area_by result (result_of cell.now n update.now m) out.old }
 {

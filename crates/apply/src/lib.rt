@@ -5,29 +5,28 @@
 // `loader`.
 #![tactic(auto)]
 
-ghost use Rattle.std.specs.Prelude.{◌≡◌, length, replicate};
+ghost use Rattle.std.specs.Prelude.{◌≡◌, Ok, length, replicate};
 ghost use Rattle.reader.specs.Reader.{front_of};
 ghost use Rattle.loader.specs.Apply.{apply_of, apply_area};
 
 use amending::changed;
 use answers::Answer;
-use bothonce::both::{Both, both_once};
+use bothonce::both::both_once;
 use checked::applied;
 use octets::area::clear;
-use reader::front::{Front, opened};
+use reader::front::opened;
 
 pub mod checked;
 
 // An opened cell of n records, and an update that is still to be opened.
 fn update_opened(cell: &[u8], n: usize, update: &[u8], out: &mut [u8], work: &mut [u8]) -> Answer
-    requires { front_of 1 cell.now ≡ Front.Count n }
+    requires { front_of 1 cell.now ≡ Ok n }
     ensures value { result ≡ apply_of cell.now update.now (length work.old) (length out.old) }
     ensures out_after { out.new ≡ apply_area cell.now update.now (length work.old) out.old }
 {
-    let front = opened(update, 2);
-    match front {
-        Front::Refused(a) => a,
-        Front::Count(m) => applied(cell, n, update, m, out, work),
+    match opened(update, 2) {
+        Ok(m) => applied(cell, n, update, m, out, work),
+        Err(a) => a,
     }
 }
 
@@ -36,10 +35,9 @@ fn applied_again(cell: &[u8], update: &[u8], out: &mut [u8], work: &mut [u8]) ->
     ensures value { result ≡ apply_of cell.now update.now (length work.old) (length out.old) }
     ensures out_after { out.new ≡ apply_area cell.now update.now (length work.old) out.old }
 {
-    let front = opened(cell, 1);
-    match front {
-        Front::Refused(a) => a,
-        Front::Count(n) => update_opened(cell, n, update, out, work),
+    match opened(cell, 1) {
+        Ok(n) => update_opened(cell, n, update, out, work),
+        Err(a) => a,
     }
 }
 
@@ -48,10 +46,9 @@ fn applied_once(cell: &[u8], update: &[u8], out: &mut [u8], work: &mut [u8]) -> 
     ensures value { result ≡ apply_of cell.now update.now (length work.old) (length out.old) }
     ensures out_after { out.new ≡ apply_area cell.now update.now (length work.old) out.old }
 {
-    let read = both_once(cell, update, work);
-    match read {
-        Both::All(n, m) => changed(cell, n, update, m, work, out),
-        Both::Not => applied_again(cell, update, out, work),
+    match both_once(cell, update, work) {
+        Some((n, m)) => changed(cell, n, update, m, work, out),
+        None => applied_again(cell, update, out, work),
     }
 }
 

@@ -3,8 +3,7 @@ use Prim.Native.Nat.{ℕ, suc, ◌+◌, ◌-◌, ◌*◌, ◌≤◌, ◌<◌}
 use mathlib.Core.Bool.{Bool, true, false, not}
 use mathlib.Core.List.{List}
 use mathlib.Core.Path.{◌≡◌, refl, sym, ap, ◌∙◌}
-use native.Mathlib.Nat.{zero-mul, suc-mul, mul-le-mul_right}
-use native.Mathlib.Numerals.{add-one}
+use native.Mathlib.Nat.{suc-mul}
 use native.Mathlib.Omega.{arith}
 use lib.ListN.{length}
 use lib.Dec.{eqb}
@@ -24,26 +23,6 @@ use Rattle.asheld.proofs.RowLaws.{lengths_fewest, positions_fewest, row_sure, ro
 
 never : {A : Type 0} → false ≡ true → A
 never e = absurd (let z : ◌≡◌ {A = ℕ} 0 1 = cc in omega arith)
-
--- ---- some_long
-pub row_first : (i w : ℕ) → i ≡ i + 0 * w
-row_first i w = let z = zero-mul w in omega arith
-
-module _ (i n w k at room : ℕ) (so : at ≡ i + k * w) where
-  pub row_next : at + w ≡ i + (k + 1) * w
-  row_next = rw (add-one k) (let z = suc-mul k w in omega arith)
-
-  pub row_in : i + n * w ≤ room → k < n → at + w ≤ room
-  row_in h less =
-      let step : suc k * w ≤ n * w = mul-le-mul_right w less in
-      let z = suc-mul k w in
-      omega arith
-
-pub long_found : (s : List ℕ) (i n w k at : ℕ) → at ≡ i + k * w → k < n → (byte_at s (at + 4) ≡ 48 → ⊥) → LongTold s i n w true
-long_found s i n w k at so less ne = record { is = λ (e : true ≡ true). record { row = k; below = less; digit = rw so at ne } }
-
-pub long_none : (s : List ℕ) (i n w : ℕ) → LongTold s i n w false
-long_none s i n w = record { is = λ (e : false ≡ true). never e }
 
 -- ---- is_closed
 pub closed_no : (s : List ℕ) (at base : ℕ) → ClosedTold s at base false

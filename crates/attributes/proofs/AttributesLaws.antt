@@ -4,6 +4,7 @@ use mathlib.Core.Bool.{Bool, true, false, not, cond, ◌&&◌}
 use mathlib.Core.List.{List, ◌∷◌}
 use mathlib.Core.Path.{◌≡◌, refl, sym, ◌∙◌}
 use native.Mathlib.Nat.{add-zero}
+use native.Mathlib.Numerals.{add-one}
 use native.Mathlib.Omega.{arith}
 use lib.ListN.{length, take, drop, get_or, set}
 use lib.Dec.{eqb}
@@ -17,6 +18,8 @@ use Rattle.entries.specs.Rules.{through}
 use Rattle.entries.proofs.WalkLaws.{walk_end, walk_more}
 use Rattle.headvalues.specs.Text.{text_good}
 use Rattle.attributes.specs.Attributes.{attribute, label_of, value_of, is_removal, value_good, attributes_from, attributes_fault, met_label, met_after}
+use Rattle.std.specs.Prelude.{Ok, Err}
+use Rattle.values.proofs.FaultLaws.{told_ok, told_err}
 use Rattle.attributes.specs.Premises.{Stamped, Upto}
 use Rattle.attributes.specs.Judged.{AttributesJudged}
 use Rattle.attributes.proofs.PartLaws.{part_text, attribute_long}
@@ -78,15 +81,15 @@ walked_start update high c stamp t = record {
 -- ---- the turns: n is the length of the entry at `at` as it was measured
 module _ {update high : Bool} {c : List ℕ} {stamp : ℕ} {before t : List ℕ} {at : ℕ} (w : Walked update high c stamp before t at) (n : ℕ)
     (size : n ≡ entry_len attribute (drop at c)) where
-  pub walked_end : n ≡ 0 → AttributesJudged update high c stamp before t 0
+  pub walked_end : n ≡ 0 → AttributesJudged update high c stamp before t (Ok tt)
   unfolding attributes_from through
   walked_end h =
       let none = walk_end attribute c at n size h in
       record {
-        fault = λ (seen : List ℕ) (s : Stamped before stamp seen). sym ((w.here seen s).fault ∙ rw none);
-        met = λ (seen : List ℕ) (s : Stamped before stamp seen) (z : ◌≡◌ {A = ℕ} 0 0). rw ((w.here seen s).after, none) (w.here seen s).stamped;
+        fault = λ (seen : List ℕ) (s : Stamped before stamp seen). told_ok ((w.here seen s).fault ∙ rw none);
+        met = λ (seen : List ℕ) (s : Stamped before stamp seen). rw ((w.here seen s).after, none) (w.here seen s).stamped;
         upto = w.upto;
-        within = omega arith;
+        within = tt;
       }
 
   module _ (some : n ≡ 0 → ⊥) (fit : at + n ≤ length c) (label : ℕ) (told : label ≡ label_of (take n (drop at c))) (small : label < 65536) where
@@ -97,12 +100,12 @@ module _ {update high : Bool} {c : List ℕ} {stamp : ℕ} {before t : List ℕ}
     unfolding attributes_from
     turn met = rw (walk_more attribute c at n size some, part_long c at n fit, told)
 
-    pub walked_met : get_or t label 0 ≡ stamp → AttributesJudged update high c stamp before t (at + 1)
+    pub walked_met : get_or t label 0 ≡ stamp → AttributesJudged update high c stamp before t (Err (record { at = at }))
     walked_met e = record {
       fault = λ (seen : List ℕ) (s : Stamped before stamp seen).
           let now = w.here seen s in
-          sym (now.fault ∙ turn now.met ∙ rw (stamped_met now.stamped label small e));
-      met = λ (seen : List ℕ) (s : Stamped before stamp seen) (z : at + 1 ≡ 0). absurd (omega arith);
+          told_err (now.fault ∙ turn now.met ∙ rw (stamped_met now.stamped label small e) (add-one at));
+      met = λ (seen : List ℕ) (s : Stamped before stamp seen). tt;
       upto = w.upto;
       within = omega (arith, attribute_long (drop at c) n size some);
     }
@@ -115,12 +118,12 @@ module _ {update high : Bool} {c : List ℕ} {stamp : ℕ} {before t : List ℕ}
       upto_next : Upto before stamp → Upto (set t label stamp) stamp
       upto_next u = upto_set label (omega arith) (w.upto u)
 
-      pub walked_bad : not r ≡ true → AttributesJudged update high c stamp before (set t label stamp) (at + 3)
+      pub walked_bad : not r ≡ true → AttributesJudged update high c stamp before (set t label stamp) (Err (record { at = at + 2 }))
       walked_bad no_value = record {
         fault = λ (seen : List ℕ) (s : Stamped before stamp seen).
             let now = w.here seen s in
-            sym (now.fault ∙ value_turn now.met now.stamped ∙ rw (not-true r no_value));
-        met = λ (seen : List ℕ) (s : Stamped before stamp seen) (z : at + 3 ≡ 0). absurd (omega arith);
+            told_err (now.fault ∙ value_turn now.met now.stamped ∙ rw (not-true r no_value) (omega arith));
+        met = λ (seen : List ℕ) (s : Stamped before stamp seen). tt;
         upto = upto_next;
         within = omega (arith, attribute_long (drop at c) n size some);
       }

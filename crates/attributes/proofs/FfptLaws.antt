@@ -2,7 +2,7 @@
 use Prim.Native.Nat.{ℕ, ◌+◌, ◌-◌, ◌≤◌, ◌<◌}
 use mathlib.Core.Bool.{Bool, true, false, not, cond}
 use mathlib.Core.List.{List}
-use mathlib.Core.Path.{◌≡◌, refl, sym, ◌∙◌}
+use mathlib.Core.Path.{◌≡◌, refl, ◌∙◌}
 use native.Mathlib.Omega.{arith}
 use lib.ListN.{length, take, drop}
 use lib.Dec.{leb}
@@ -12,6 +12,9 @@ use Rattle.octets.specs.Number.{byte_at}
 use Rattle.entries.specs.Entries.{entry_len, entries_of}
 use Rattle.entries.proofs.WalkLaws.{walk_end, walk_more}
 use Rattle.headvalues.specs.Text.{text_good}
+use Rattle.std.specs.Prelude.{Ok, Err}
+use Rattle.values.specs.Fault.{told}
+use Rattle.values.proofs.FaultLaws.{told_ok, told_err}
 use Rattle.attributes.specs.Attributes.{pointer, rind_good, comment_of, ffpt_from, ffpt_fault}
 use Rattle.attributes.proofs.PartLaws.{part_text, pointer_long}
 
@@ -41,24 +44,24 @@ walked_start c = record { here = refl }
 
 -- ---- the turns: n is the length of the entry at `at` as it was measured
 module _ {c : List ℕ} {at : ℕ} (w : Walked c at) (n : ℕ) (size : n ≡ entry_len pointer (drop at c)) where
-  pub walked_end : n ≡ 0 → 0 ≡ ffpt_fault c
+  pub walked_end : n ≡ 0 → Ok tt ≡ told (ffpt_fault c)
   unfolding ffpt_from
-  walked_end h = sym (w.here ∙ rw (walk_end pointer c at n size h))
+  walked_end h = told_ok (w.here ∙ rw (walk_end pointer c at n size h))
 
   module _ (some : n ≡ 0 → ⊥) (fit : at + n ≤ length c) (r : Bool) (rind : r ≡ rind_good (take n (drop at c))) where
     turn : ffpt_fault c ≡ cond r (cond (text_good false (comment_of (take n (drop at c)))) (ffpt_from (at + n) (entries_of pointer (drop (at + n) c))) (at + 10)) (at + 9)
     unfolding ffpt_from
     turn = w.here ∙ rw (walk_more pointer c at n size some, part_long c at n fit, rind)
 
-    pub walked_rind : not r ≡ true → at + 9 ≡ ffpt_fault c
-    walked_rind h = sym (turn ∙ rw (not-true r h))
+    pub walked_rind : not r ≡ true → Err (record { at = at + 8 }) ≡ told (ffpt_fault c)
+    walked_rind h = told_err (turn ∙ rw (not-true r h) (omega arith))
 
     module _ (good : not r ≡ false) (q : Bool) (comment : q ≡ text_good false (comment_of (take n (drop at c)))) where
-      pub walked_comment : not q ≡ true → at + 10 ≡ ffpt_fault c
-      walked_comment h = sym (turn ∙ rw (not-false r good, ← comment, not-true q h))
+      pub walked_comment : not q ≡ true → Err (record { at = at + 9 }) ≡ told (ffpt_fault c)
+      walked_comment h = told_err (turn ∙ rw (not-false r good, ← comment, not-true q h) (omega arith))
 
       pub walked_on : not q ≡ false → Walked c (at + n)
       walked_on h = record { here = turn ∙ rw (not-false r good, ← comment, not-false q h) }
 
-pub pointer_within : (c : List ℕ) (at n k : ℕ) → n ≡ entry_len pointer (drop at c) → (n ≡ 0 → ⊥) → at + n ≤ length c → k ≤ 10 → at + k ≤ length c
+pub pointer_within : (c : List ℕ) (at n k : ℕ) → n ≡ entry_len pointer (drop at c) → (n ≡ 0 → ⊥) → at + n ≤ length c → k < 10 → at + k < length c
 pointer_within c at n k size some fit h = omega (arith, pointer_long (drop at c) n size some)

@@ -1,7 +1,7 @@
 -- Laws of a cell and an update that are read in one pass each. Assumes nothing.
 use Prim.Native.Nat.{ℕ, ◌+◌, ◌-◌, ◌*◌, ◌≤◌}
 use mathlib.Core.List.{List}
-use mathlib.Core.Path.{◌≡◌, ◌∙◌}
+use mathlib.Core.Path.{◌≡◌, ◌∙◌, subst}
 use native.Mathlib.Nat.{add-zero}
 use native.Mathlib.Omega.{arith}
 use lib.ListN.{length, take}
@@ -17,12 +17,8 @@ use Rattle.reader.proofs.ReaderLaws.{cell_good}
 use Rattle.readboth.proofs.CallLaws.{few, front_opened}
 use Rattle.readonce.specs.Once.{CellRead}
 use Rattle.bothonce.specs.Both.{PlacedTold, Raised, BothRead, BothTold}
-use Rattle.bothonce.specs.declared.both.Both.{Both}
-use Rattle.bothonce.specs.declared.both.Both.TheVariants as both
+use Rattle.std.specs.Prelude.{Some}
 use Rattle.bothonce.proofs.RaiseLaws.{raised_part}
-
-pub both_not : {cell update work : List ℕ} → BothTold cell update work both.Not
-both_not = record { all = λ n m e. absurd (let z : ◌≡◌ {A = ℕ} 0 1 = cc in omega arith) }
 
 -- ---- the cell
 module _ {cell work : List ℕ} {n : ℕ} (so : CellRead cell n work) where
@@ -53,7 +49,7 @@ module _ {cell update before work after : List ℕ} {n i m : ℕ} (so : CellRead
         come = come ∙ rw here at (told.told some).words;
       }
 
-  pub both_all : 16 * (n + m) ≤ length after → BothTold cell update after (both.All n m)
+  pub both_all : 16 * (n + m) ≤ length after → BothTold cell update after (Some (n, m))
   both_all room =
       let u = told.told some in
       let read : BothRead cell n update m after = record {
@@ -64,7 +60,7 @@ module _ {cell update before work after : List ℕ} {n i m : ℕ} (so : CellRead
         update_fine = u.fine;
         words = words_both;
       } in
-      record { all = λ k j e. let a : n ≡ k = cc in let b : m ≡ j = cc in rw (← a, ← b) read }
+      record { all = λ k j e. subst (λ (p : ℕ × ℕ). BothRead cell p.0 update p.1 after) (let same : (n, m) ≡ (k, j) = cc in same) read }
 
 -- the two have no code
 pub both_fine : {cell update work : List ℕ} {n m : ℕ} → BothRead cell n update m work → (both_fault cell n update m).code ≡ 0

@@ -1,17 +1,16 @@
 -- Laws of an update that is read in one pass, and of the part of the work area that is lent for it. Assumes nothing.
 use Prim.Native.Nat.{ℕ, ◌-◌, ◌*◌, ◌≤◌}
-use mathlib.Core.Bool.{true}
+use mathlib.Core.Bool.{true, false}
 use mathlib.Core.List.{List}
-use mathlib.Core.Path.{◌≡◌, refl, sym, ap, ◌∙◌}
+use mathlib.Core.Path.{◌≡◌, refl, sym, ◌∙◌}
 use native.Mathlib.Omega.{arith}
 use lib.ListN.{length, take}
 use borrow.Rule.Slice.PartMut.{mid_of, put_mid, mid_len}
 use Rattle.words.specs.Words.{words_in}
 use Rattle.words.specs.Order.{sorted, Sorts}
-use Rattle.answers.specs.Answer.{refusal}
-use Rattle.answers.specs.declared.refusal.Refusal.{Refusal}
-use Rattle.chart.specs.Read.{read_fault}
-use Rattle.names.specs.Names.{first_item, twice_of}
+use Rattle.std.specs.Prelude.{Option, Some, None, is_some}
+use Rattle.answers.proofs.OutcomeLaws.{none_of}
+use Rattle.names.specs.Names.{first_item, twice_of, met_twice}
 use Rattle.names.specs.NameWords.{name_words}
 use Rattle.names.specs.Premises.{Readable}
 use Rattle.names.specs.declared.twice.Repeat.{Repeat}
@@ -26,6 +25,10 @@ use Rattle.bothonce.specs.Both.{UpdateTold, PlacedTold}
 
 pub update_not : {s area : List ℕ} → UpdateTold s area 0
 update_not = record { told = λ some. absurd (some refl) }
+
+none_some : (t : Option Repeat) → is_some t ≡ false → t ≡ None
+none_some None h = refl
+none_some (Some w) h = cc
 
 -- ---- of m records that were passed
 module _ {s before area : List ℕ} {p : Passed} (told : FileTold true s before area p) (some : p.count ≡ 0 → ⊥) where
@@ -52,7 +55,7 @@ module _ {s before area : List ℕ} {p : Passed} (told : FileTold true s before 
     once_room room = let size = sorts.size in omega arith
 
     -- ---- without a name twice
-    pub update_all : (t : Repeat) → t ≡ twice_of true s m → t.index ≡ 0 → 8 * m ≤ length area → UpdateTold s after m
+    pub update_all : (t : Option Repeat) → t ≡ met_twice (twice_of true s m) → is_some t ≡ false → 8 * m ≤ length area → UpdateTold s after m
     update_all t twice once room =
         let r = told.told some in
         record {
@@ -60,7 +63,7 @@ module _ {s before area : List ℕ} {p : Passed} (told : FileTold true s before 
             front = sym (front_count 2 s _ r.short refl m r.framed);
             two = once_two;
             room = (let size = sorts.size in omega arith);
-            fine = ap (λ (x : Refusal). x.code) (sym (update_fine s m (read_fault true s m) refl r.none t twice (refusal 0 0 0) once refl));
+            fine = none_of _ (update_fine s m r.none twice (none_some t once)) refl;
             words = come_words once_words;
           };
         }

@@ -1,18 +1,15 @@
 -- What the passes over a cell and an update promise. It serves the proofs, and nothing here need be believed. Assumes nothing.
-use Rattle.std.specs.Prelude.{ℕ, ◌+◌, ◌-◌, ◌*◌, ◌≤◌, true, List, ◌≡◌, length}
+use Rattle.std.specs.Prelude.{ℕ, ◌+◌, ◌-◌, ◌*◌, ◌≤◌, true, List, ◌≡◌, length, Option, Some, Ok}
 use Rattle.answers.specs.Codes.{work_each}
 use Rattle.words.specs.Words.{words_in}
 use Rattle.words.specs.Order.{sorted}
 use Rattle.names.specs.NameWords.{name_words}
 use Rattle.reader.specs.Reader.{front_of, cell_fault, update_fault}
 use Rattle.reader.specs.Lent.{ComeIn, BothIn}
-use Rattle.reader.specs.declared.front.Front.TheVariants.{Count}
-use Rattle.bothonce.specs.declared.both.Both.{Both}
-use Rattle.bothonce.specs.declared.both.Both.TheVariants.{All}
 
 -- an update of n records without any of the codes 1, 2 and 4 to 7, the words of its records at the front of the area
 pub record UpdateRead (s : List ℕ) (n : ℕ) (area : List ℕ) : Type 0 where
-  pub front : front_of 2 s ≡ Count n
+  pub front : front_of 2 s ≡ Ok n
   pub two : 2 ≤ n
   pub room : 8 * n ≤ length area
   pub fine : (update_fault s n).code ≡ 0
@@ -23,7 +20,7 @@ pub record UpdateTold (s area : List ℕ) (r : ℕ) : Type 0 where
 
 -- the same, its words from word i of the work area on
 pub record PlacedRead (s : List ℕ) (i n : ℕ) (work : List ℕ) : Type 0 where
-  pub front : front_of 2 s ≡ Count n
+  pub front : front_of 2 s ≡ Ok n
   pub two : 2 ≤ n
   pub fine : (update_fault s n).code ≡ 0
   pub words : words_in work i (n - 2) ≡ sorted (name_words true s n)
@@ -37,12 +34,12 @@ pub record Raised (before : List ℕ) (n : ℕ) (after : List ℕ) : Type 0 wher
 
 -- a cell of n records and an update of m without any of the codes 1 to 8, and the words of both
 pub record BothRead (cell : List ℕ) (n : ℕ) (update : List ℕ) (m : ℕ) (work : List ℕ) : Type 0 where
-  pub first : front_of 1 cell ≡ Count n
-  pub second : front_of 2 update ≡ Count m
+  pub first : front_of 1 cell ≡ Ok n
+  pub second : front_of 2 update ≡ Ok m
   pub room : work_each * (n + m) ≤ length work
   pub cell_fine : (cell_fault cell n).code ≡ 0
   pub update_fine : (update_fault update m).code ≡ 0
   pub words : BothIn cell n update m work
 
-pub record BothTold (cell update work : List ℕ) (r : Both) : Type 0 where
-  pub all : (n m : ℕ) → r ≡ All n m → BothRead cell n update m work
+pub record BothTold (cell update work : List ℕ) (r : Option (ℕ × ℕ)) : Type 0 where
+  pub all : (n m : ℕ) → r ≡ Some (n, m) → BothRead cell n update m work

@@ -8,7 +8,5 @@ pub mod both;
 pub mod raise;
 pub mod update;
 
-pub use both::Both;
-
 // A cell and an update that are read in one pass each.
 pub use both::both_once;

@@ -3,7 +3,7 @@ ghost use Rattle.std.specs.Prelude.{◌*◌, ◌≤◌, ◌≡◌, length, take}
 ghost use Rattle.bothonce.specs.Both.{UpdateTold, PlacedTold};
 
 use names::twice::twice;
-use reader::front::{Start, started};
+use reader::front::started;
 use readonce::pass::file_once;
 use words::sort;
 
@@ -12,8 +12,7 @@ use words::sort;
 fn update_once(update: &[u8], area: &mut [u8]) -> usize
     ensures { UpdateTold update.now area.new result }
 {
-    let start = started(update, 2);
-    let Start::At(at) = start else {
+    let Ok(at) = started(update, 2) else {
         return 0;
     };
     let passed = file_once(update, at, true, area);
@@ -25,8 +24,7 @@ fn update_once(update: &[u8], area: &mut [u8]) -> usize
         return 0;
     }
     sort(area, 0, m - 2);
-    let t = twice(update, m, true, area);
-    if t.index != 0 {
+    if twice(update, m, true, area).is_some() {
         return 0;
     }
     m

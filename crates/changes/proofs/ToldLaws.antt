@@ -7,11 +7,11 @@ use mathlib.Core.Path.{◌≡◌, refl}
 use native.Mathlib.Omega.{arith}
 use lib.ListN.{length}
 use lib.Dec.{eqb}
+use Rattle.std.specs.Prelude.{Ok}
 use Rattle.octets.specs.Number.{byte_at}
 use Rattle.octets.proofs.Cases.{true_or_false, eq_or_ne}
 use Rattle.iso8211.specs.Record.{end_of}
 use Rattle.iso8211.specs.File.{frame_of, record_at}
-use Rattle.iso8211.specs.declared.file.Framed.TheVariants.{Records}
 use Rattle.iso8211.proofs.Promise.{record_in, at_next, last_ends}
 use Rattle.declarations.specs.Described.{described_of}
 use Rattle.layout.specs.Layout.{layout_fault}
@@ -33,7 +33,7 @@ use Rattle.changes.proofs.ControlLaws.{controlled}
 use Rattle.layout.specs.General.{aall_at, nall_at}
 
 -- ---- the records behind the header
-module _ (s marks : List ℕ) (n : ℕ) (framed : frame_of s ≡ Records n) (small : (i : ℕ) → byte_at s i < 256) (aall nall : ℕ) where
+module _ (s marks : List ℕ) (n : ℕ) (framed : frame_of s ≡ Ok n) (small : (i : ℕ) → byte_at s i < 256) (aall nall : ℕ) where
   read_from : (m k : ℕ) (st : State) → k + m ≡ n → 2 ≤ st.stage → st.stage ≤ 3 → st.aall ≡ aall → st.nall ≡ nall
       → (records_fault m true marks s k (record_at s k) st).code ≡ 0
       → (j : ℕ) → k ≤ j → j < n → GoodAmendment aall nall (amendment_at s (record_at s j)) × Controlled s (record_at s j)
@@ -58,7 +58,7 @@ module _ (s marks : List ℕ) (n : ℕ) (framed : frame_of s ≡ Records n) (sma
       rw (at_next s k (record_at s k) refl) (good_more (each k from (omega arith)) (good_from m (k + 1) (omega arith) (omega arith) each))
 
 -- ---- the update
-update_from : (s marks : List ℕ) (n m : ℕ) → frame_of s ≡ Records n → length s ≤ 5242880 → ((i : ℕ) → byte_at s i < 256) → 1 + m ≡ n → Readable true s n
+update_from : (s marks : List ℕ) (n m : ℕ) → frame_of s ≡ Ok n → length s ≤ 5242880 → ((i : ℕ) → byte_at s i < 256) → 1 + m ≡ n → Readable true s n
     → (records_fault m true marks s 1 (record_at s 1) first_state).code ≡ 0 → (twice_of true s n).index ≡ 0
     → UpdateTold s n
 unfolding records_fault passed_state next_stage change_of first_item
@@ -85,7 +85,7 @@ update_from s marks n (suc m) framed short small all items fault once =
     }
 
 -- an update without a refusal of codes 1, 2 and 4 to 7
-pub update_told : (s : List ℕ) (m : ℕ) → frame_of s ≡ Records m → length s ≤ 5242880 → ((i : ℕ) → byte_at s i < 256) → (read_fault true s m).code ≡ 0
+pub update_told : (s : List ℕ) (m : ℕ) → frame_of s ≡ Ok m → length s ≤ 5242880 → ((i : ℕ) → byte_at s i < 256) → (read_fault true s m).code ≡ 0
     → (twice_of true s m).index ≡ 0 → UpdateTold s m
 unfolding read_fault
 update_told s m framed short small fault once =

@@ -6,8 +6,8 @@ use mathlib.Core.List.{List, [], ◌∷◌, map}
 use mathlib.Core.Path.{◌≡◌, refl, ◌∙◌}
 use native.Mathlib.Omega.{arith}
 use lib.ListN.{length}
+use Rattle.std.specs.Prelude.{Ok}
 use Rattle.iso8211.specs.File.{frame_of, record_at}
-use Rattle.iso8211.specs.declared.file.Framed.TheVariants.{Records}
 use Rattle.iso8211.proofs.Promise.{at_next, record_in}
 use Rattle.items.specs.Identity.{word_for}
 use Rattle.items.specs.Word.{name_of, word_offset, marked}
@@ -28,7 +28,7 @@ abbrev pub amendment_by : List ℕ → ℕ → Amendment
 amendment_by b w = amendment_at b (word_offset w)
 
 -- ---- the amendments are those of the words
-module _ (b : List ℕ) (m : ℕ) (framed : frame_of b ≡ Records m) (short : length b ≤ 5242880) where
+module _ (b : List ℕ) (m : ℕ) (framed : frame_of b ≡ Ok m) (short : length b ≤ 5242880) where
   from_words : (n k : ℕ) → k + n ≡ m → amendments_from n b (record_at b k) ≡ map (amendment_by b) (words_from n b (record_at b k))
   unfolding amendments_from words_from
   from_words zero k e = refl

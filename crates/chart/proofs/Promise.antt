@@ -3,16 +3,16 @@
 use Prim.Native.Nat.{ℕ, zero, suc, ◌+◌, ◌-◌, ◌≤◌, ◌<◌}
 use mathlib.Core.Bool.{Bool, true, false, cond}
 use mathlib.Core.List.{List, []}
-use mathlib.Core.Logic.{⊎_elim, ◌⊎◌}
+use mathlib.Core.Logic.{⊎_elim}
 use mathlib.Core.Path.{◌≡◌, refl}
 use native.Mathlib.Omega.{arith}
 use lib.ListN.{length}
 use lib.Dec.{eqb, ltb}
 use borrow.Author.Tests.{eqb-true, ltb-false, eq-eqb, ne_eqb}
+use Rattle.std.specs.Prelude.{Ok}
 use Rattle.octets.proofs.Cases.{eq_or_ne, true_or_false}
 use Rattle.iso8211.specs.Record.{end_of}
 use Rattle.iso8211.specs.File.{frame_of, record_at}
-use Rattle.iso8211.specs.declared.file.Framed.TheVariants.{Records}
 use Rattle.iso8211.proofs.Promise.{at_next, last_ends}
 use Rattle.declarations.specs.Described.{described_of}
 use Rattle.iso8211.specs.Field.{count_at, field_at, FieldsIn}
@@ -152,7 +152,7 @@ good_from (suc m) update marks s k at st h e stage low =
     )
 
 -- each record of a file in which nothing was refused; and how many records there are at the least
-pub good_records : (update : Bool) (s : List ℕ) (n : ℕ) → frame_of s ≡ Records n → (read_fault update s n).code ≡ 0
+pub good_records : (update : Bool) (s : List ℕ) (n : ℕ) → frame_of s ≡ Ok n → (read_fault update s n).code ≡ 0
     → ((j : ℕ) → 1 ≤ j → j < n → Here update (described_of s) s j) × ((update ≡ false → 3 ≤ n) × (2 ≤ n))
 unfolding read_fault
 good_records update s n framed h =

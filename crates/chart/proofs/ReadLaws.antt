@@ -1,12 +1,12 @@
 -- Laws of the reading of a file's records. Assumes nothing.
-use Prim.Native.Nat.{ℕ, zero, suc, ◌+◌, ◌-◌, ◌≤◌, ◌<◌}
-use mathlib.Core.Bool.{Bool, true, false, not}
+use Prim.Native.Nat.{ℕ, suc, ◌+◌, ◌-◌, ◌≤◌, ◌<◌}
+use mathlib.Core.Bool.{Bool}
 use mathlib.Core.List.{List, []}
 use mathlib.Core.Path.{◌≡◌, refl, sym, ap, ◌∙◌}
 use native.Mathlib.Omega.{arith}
 use lib.ListN.{length, replicate, length-replicate}
 use lib.Dec.{eqb}
-use borrow.Author.Tests.{not-true, not-false, eq-eqb, ne_eqb, lt-ltb, le-ltb}
+use borrow.Author.Tests.{eq-eqb, ne_eqb, lt-ltb, le-ltb}
 use Rattle.layout.specs.Premises.{LevelsIn}
 use Rattle.iso8211.specs.Record.{end_of}
 use Rattle.iso8211.specs.Field.{count_at, field_at}
@@ -18,17 +18,20 @@ use Rattle.table.specs.Table.{kind_of, kind_count}
 use Rattle.attributes.specs.Premises.{Upto}
 use Rattle.attributes.proofs.StampLaws.{upto_zeros, upto_more}
 use Rattle.declarations.specs.Described.{described_of}
-use Rattle.declarations.specs.Premises.{marks_of}
-use Rattle.declarations.specs.declared.marks.Described.{Described}
 use Rattle.layout.specs.Layout.{layout_fault}
 use Rattle.layout.specs.Record.{content_at}
 use Rattle.layout.proofs.Promise.{laid, laid_dsid, full_dssi, content_length}
+use Rattle.std.specs.Prelude.{Result, Ok, Err}
+use Rattle.values.specs.declared.fault.Fault.{Fault}
+use Rattle.values.specs.Fault.{told_place}
+use Rattle.values.proofs.FaultLaws.{place_none, place_some}
 use Rattle.fieldvalue.specs.Value.{value_fault}
 use Rattle.fieldvalue.specs.Judged.{Full, RecordJudged}
 use Rattle.chart.specs.Read.{next_stage, is_feature, passed_state, first_state, records_fault, read_fault}
 use Rattle.layout.specs.General.{aall_at, nall_at}
 use Rattle.chart.specs.declared.read.State.{State}
-use Rattle.answers.specs.Answer.{refusal}
+use Rattle.answers.specs.Answer.{refusal, outcome}
+use Rattle.answers.proofs.OutcomeLaws.{fine_told, made_told}
 use Rattle.chart.specs.Before.{RecordPassed, BeforeRecords, ReadTo, start_at}
 use Rattle.chart.specs.declared.read.Reached.{Reached}
 use Rattle.answers.specs.declared.refusal.Refusal.{Refusal}
@@ -104,41 +107,43 @@ unfolding records_fault
 records_next m p update marks s k at st e h g = rw (e, eq-eqb _ _ h, eq-eqb _ _ g)
 
 module _ {update : Bool} {marks s : List ℕ} {whole : Refusal} {n : ℕ} {t : List ℕ} {k at : ℕ} {st : State} (so : Reading update marks s whole n t k at st) (more : k < n) where
-  pub reading_layout : (l : ℕ) (r : Refusal) → l ≡ layout_fault update st.stage marks s at → (l ≡ 0 → ⊥) → r ≡ refusal 5 k l → r ≡ whole
-  reading_layout l r e h q =
-      q ∙ ap (refusal 5 k) e ∙ sym (so.is ∙ records_layout (n - k) (n - (k + 1)) update marks s k at st (omega arith) (λ z. h (e ∙ z)))
+  pub reading_layout : {a : Result Unit Fault} {f : Fault} (r : Refusal) → a ≡ told_place (layout_fault update st.stage marks s at) → a ≡ Err f → r
+      ≡ refusal 5 k f.at → Err r ≡ outcome whole
+  reading_layout r e h q =
+      let p = place_some _ e h in
+      made_told q (q ∙ ap (refusal 5 k) (sym p.0) ∙ sym (so.is ∙ records_layout (n - k) (n - (k + 1)) update marks s k at st (omega arith) p.1))
 
-  module _ (l : ℕ) (laid_out : l ≡ layout_fault update st.stage marks s at) (none : l ≡ 0) {after : List ℕ} {v : ℕ}
+  module _ (none : layout_fault update st.stage marks s at ≡ 0) {after : List ℕ} {v : Result Unit Fault}
       (judged : RecordJudged update st.aall st.nall s at t after v) where
-    pub reading_value : (r : Refusal) → (v ≡ 0 → ⊥) → r ≡ refusal 6 k v → r ≡ whole
+    pub reading_value : {f : Fault} (r : Refusal) → v ≡ Err f → r ≡ refusal 6 k f.at → Err r ≡ outcome whole
     reading_value r h q =
-        let e = judged.fault so.upto in
-        q ∙ ap (refusal 6 k) e ∙ sym (so.is ∙ records_value (n - k) (n - (k + 1)) update marks s k at st (omega arith) (sym laid_out ∙ none) (λ z. h (e ∙ z)))
+        let p = place_some _ (judged.fault so.upto) h in
+        made_told q (q ∙ ap (refusal 6 k) (sym p.0) ∙ sym (so.is ∙ records_value (n - k) (n - (k + 1)) update marks s k at st (omega arith) none p.1))
 
-    pub reading_on : v ≡ 0 → (next : State) (e : ℕ) → next ≡ passed_state update s at st → e ≡ end_of s at → Reading update marks s whole n after (k + 1) e next
+    pub reading_on : {u : Unit} → v ≡ Ok u → (next : State) (e : ℕ) → next ≡ passed_state update s at st → e ≡ end_of s at → Reading update marks s whole n after (k + 1) e next
     reading_on z next e is end = record {
-      is = so.is ∙ records_next (n - k) (n - (k + 1)) update marks s k at st (omega arith) (sym laid_out ∙ none) (sym (judged.fault so.upto) ∙ z)
+      is = so.is ∙ records_next (n - k) (n - (k + 1)) update marks s k at st (omega arith) none (place_none _ (judged.fault so.upto) z)
           ∙ ap (λ (x : ℕ). records_fault (n - (k + 1)) update marks s (k + 1) x (passed_state update s at st)) (sym end)
           ∙ ap (λ (x : State). records_fault (n - (k + 1)) update marks s (k + 1) e x) (sym is);
       upto = rw end (judged.upto so.upto);
     }
 
 module _ {update : Bool} {marks s : List ℕ} {whole : Refusal} {n : ℕ} {t : List ℕ} {k at : ℕ} {st : State} (so : Reading update marks s whole n t k at st) (low : n ≤ k) where
-  pub reading_short : (r : Refusal) → st.stage < 2 → r ≡ refusal 5 k (length s) → r ≡ whole
+  pub reading_short : (r : Refusal) → k ≤ n → st.stage < 2 → r ≡ refusal 5 n (length s) → Err r ≡ outcome whole
   unfolding records_fault
-  reading_short r h q = let z : n - k ≡ 0 = omega arith in q ∙ sym (so.is ∙ rw (z, lt-ltb _ _ h))
+  reading_short r high h q = let z : n - k ≡ 0 = omega arith in let e : n ≡ k = omega arith in made_told q (rw e at q ∙ sym (so.is ∙ rw (z, lt-ltb _ _ h)))
 
-  pub reading_end : (r : Refusal) → 2 ≤ st.stage → r ≡ refusal 0 0 0 → r ≡ whole
+  pub reading_end : 2 ≤ st.stage → Ok tt ≡ outcome whole
   unfolding records_fault
-  reading_end r h q = let z : n - k ≡ 0 = omega arith in q ∙ sym (so.is ∙ rw (z, le-ltb _ _ h))
+  reading_end h = let z : n - k ≡ 0 = omega arith in fine_told whole (ap (λ (q : Refusal). q.code) so.is ∙ rw (z, le-ltb _ _ h) refl)
 
 -- ---- what Layout gives
-pub full_of : (update : Bool) (stage : ℕ) (marks s : List ℕ) (at l : ℕ) → RecordIn s at → l ≡ layout_fault update stage marks s at → l ≡ 0 → Full s at
-full_of update stage marks s at l known e z = record { known = known; full = (laid update stage marks s at known (sym e ∙ z)).full }
+pub full_of : (update : Bool) (stage : ℕ) (marks s : List ℕ) (at : ℕ) → RecordIn s at → layout_fault update stage marks s at ≡ 0 → Full s at
+full_of update stage marks s at known z = record { known = known; full = (laid update stage marks s at known z).full }
 
-pub passing_of : (update : Bool) (stage : ℕ) (marks s : List ℕ) (at l : ℕ) → RecordIn s at → l ≡ layout_fault update stage marks s at → l ≡ 0 → RecordPassed s at stage
-passing_of update stage marks s at l known e z =
-    let d = laid update stage marks s at known (sym e ∙ z) in
+pub passing_of : (update : Bool) (stage : ℕ) (marks s : List ℕ) (at : ℕ) → RecordIn s at → layout_fault update stage marks s at ≡ 0 → RecordPassed s at stage
+passing_of update stage marks s at known z =
+    let d = laid update stage marks s at known z in
     record {
       known = known;
       two = d.two;
@@ -149,21 +154,13 @@ passing_of update stage marks s at l known e z =
     }
 
 -- ---- read_fault_from
-pub read_described : (update : Bool) (s : List ℕ) (n : ℕ) (d : Described) (r : Refusal) → marks_of d ≡ described_of s → not d.good ≡ true → r ≡ refusal 4 0 0
-    → r ≡ read_fault update s n
+pub read_described : (update : Bool) (s : List ℕ) (n : ℕ) (r : Refusal) → [] ≡ described_of s → r ≡ refusal 4 0 0 → Err r ≡ outcome (read_fault update s n)
 unfolding read_fault
-read_described update s n d r e h q =
-    let good = not-true d.good h in
-    let none : described_of s ≡ [] = sym e ∙ rw good in
-    q ∙ rw none
+read_described update s n r e q = made_told q (q ∙ rw (← e))
 
--- where record 0 is described, its marks are those that were taken
-module _ (s : List ℕ) (d : Described) (e : marks_of d ≡ described_of s) (h : not d.good ≡ false) where
-  pub marks_same : described_of s ≡ d.marks
-  marks_same = let good = not-false d.good h in sym e ∙ rw good
-
-  pub marks_some : length d.marks ≡ kind_count → length (described_of s) ≡ 0 → ⊥
-  marks_some all z = let size = ap length marks_same in omega arith
+-- where record 0 is described, there are marks
+pub marks_some : (s marks : List ℕ) → marks ≡ described_of s → length marks ≡ kind_count → length (described_of s) ≡ 0 → ⊥
+marks_some s marks e all z = let size = ap length e in omega arith
 
 -- and the answer of the file is that of its records
 pub read_start : (update : Bool) (s : List ℕ) (n : ℕ) → (length (described_of s) ≡ 0 → ⊥)
@@ -171,11 +168,11 @@ pub read_start : (update : Bool) (s : List ℕ) (n : ℕ) → (length (described
 unfolding read_fault
 read_start update s n some = rw (ne_eqb _ _ some)
 
-pub read_records : {update : Bool} {s : List ℕ} {n : ℕ} {from : Reached} (d : Described) (r : Refusal) → ReadTo update s n from → marks_of d ≡ described_of s
-    → length d.marks ≡ kind_count → not d.good ≡ false
-    → r ≡ records_fault (n - from.index) update d.marks s from.index from.at from.known → r ≡ read_fault update s n
-read_records {update} {s} {n} {from} d r so e all h q =
-    q ∙ ap (λ (m : List ℕ). records_fault (n - from.index) update m s from.index from.at from.known) (sym (marks_same s d e h)) ∙ sym (so.is (marks_some s d e h all))
+pub read_records : {update : Bool} {s : List ℕ} {n : ℕ} {from : Reached} (marks : List ℕ) (r : Result Unit Refusal) → ReadTo update s n from → marks ≡ described_of s
+    → length marks ≡ kind_count → r ≡ outcome (records_fault (n - from.index) update marks s from.index from.at from.known) → r ≡ outcome (read_fault update s n)
+read_records {update} {s} {n} {from} marks r so e all q =
+    q ∙ ap (λ (m : List ℕ). outcome (records_fault (n - from.index) update m s from.index from.at from.known)) e
+    ∙ ap outcome (sym (so.is (marks_some s marks e all)))
 
 -- ---- read_fault
 pub read_first : (update : Bool) (s : List ℕ) (n at : ℕ) (from : Reached) → 0 < n → at ≡ end_of s 0 → from ≡ start_at at → ReadTo update s n from

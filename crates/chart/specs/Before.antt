@@ -1,11 +1,10 @@
 -- What is known before a record is passed, and before the records from one on are read. It serves the proofs, and nothing here need be believed. Assumes nothing.
-use Rattle.std.specs.Prelude.{ℕ, ◌-◌, ◌≤◌, Bool, List, ◌≡◌, length}
+use Rattle.std.specs.Prelude.{ℕ, ◌-◌, ◌≤◌, Bool, List, ◌≡◌, length, Ok}
 use Rattle.table.specs.Table.{kind_count}
 use Rattle.answers.specs.Codes.{most_bytes}
 use Rattle.iso8211.specs.Field.{count_at}
 use Rattle.iso8211.specs.Premises.{RecordIn}
 use Rattle.iso8211.specs.File.{frame_of, record_at}
-use Rattle.iso8211.specs.declared.file.Framed.{Framed}
 use Rattle.attributes.specs.Premises.{Upto}
 use Rattle.declarations.specs.Described.{described_of}
 use Rattle.layout.specs.Record.{content_at}
@@ -24,7 +23,7 @@ start_at at = record { index = 1; at = at; known = first_state }
 
 -- what is known where the records are read: a framed file of n records, which of them comes next, the marks of record 0, and a table without stamps
 pub record BeforeRecords (s : List ℕ) (n : ℕ) (from : Reached) (marks t : List ℕ) : Type 0 where
-  pub framed : frame_of s ≡ Framed.Records n
+  pub framed : frame_of s ≡ Ok n
   pub short : length s ≤ most_bytes
   pub low : 1 ≤ from.index
   pub high : from.index ≤ n

@@ -1,7 +1,8 @@
 // The reading of a file's records: what each stage answers is a refusal or nothing.
-ghost use Rattle.std.specs.Prelude.{◌+◌, ◌-◌, ◌≤◌, ◌<◌, ◌≡◌, length, replicate};
+ghost use Rattle.std.specs.Prelude.{◌+◌, ◌-◌, ◌≤◌, ◌<◌, ◌≡◌, length, replicate, Ok};
 ghost use Rattle.iso8211.specs.File.{frame_of};
 ghost use Rattle.chart.specs.Read.{next_stage, is_feature, passed_state, records_fault, read_fault};
+ghost use Rattle.answers.specs.Answer.{outcome};
 ghost use Rattle.answers.specs.Codes.{most_bytes};
 ghost use Rattle.chart.specs.Before.{BeforeRecords, ReadTo, RecordPassed, start_at};
 
@@ -10,8 +11,7 @@ use answers::codes::{DESCRIBED, LAYOUT, VALUE};
 use answers::refusal::refuse;
 use described::described;
 use fieldvalue::value::value_fault;
-use iso8211::field::{field_at, head_of, record_end};
-use iso8211::file::Framed;
+use iso8211::field::{Record, head_of, record_end};
 use layout::general::levels_at;
 use layout::layout_fault;
 use octets::number::wide;
@@ -53,23 +53,25 @@ pub fn start_at(at: usize) -> Reached
 fn next_stage(update: bool, stage: usize, feature: bool) -> usize
     ensures { result ≡ next_stage update stage feature }
 {
-    if stage == 0 {
-        if update {
-            return 2;
-        }
-        return 1;
+    match stage {
+        0 if update => 2,
+        0 => 1,
+        1 => 2,
+        _ if feature => 3,
+        _ => stage,
     }
-    if stage == 1 {
-        return 2;
-    }
-    if feature { 3 } else { stage }
 }
 
 fn is_feature(s: &[u8], at: usize, stage: usize) -> bool
     requires { RecordPassed s.now at stage }
     ensures { result ≡ is_feature s.now at }
 {
-    let f = field_at(s, at, head_of(s, at), 1);
+    let f = Record {
+        file: s,
+        at,
+        head: head_of(s, at),
+    }
+    .field(1);
     kind_of(f.tag) == kinds::FRID
 }
 
@@ -104,31 +106,27 @@ fn records_fault(
     marks: &[u8],
     update: bool,
     table: &mut [u32],
-) -> Refusal
+) -> Result<(), Refusal>
     requires { BeforeRecords s.now n from marks.now table.old }
-    ensures { result ≡ records_fault (n - from.index) update marks.now s.now from.index from.at from.known }
+    ensures { result ≡ outcome (records_fault (n - from.index) update marks.now s.now from.index from.at from.known) }
 {
     let mut st = from.known;
     let mut at = from.at;
-    let mut k = from.index;
-    while k < n {
+    for k in from.index..n {
         let stage = st.stage;
-        let wrong = layout_fault(s, at, marks, update, stage);
-        if wrong != 0 {
-            return refuse(LAYOUT, k, wrong);
+        if let Err(fault) = layout_fault(s, at, marks, update, stage) {
+            return Err(refuse(LAYOUT, k, fault.at));
         }
-        let fault = value_fault(s, at, update, st.aall, st.nall, table);
-        if fault != 0 {
-            return refuse(VALUE, k, fault);
+        if let Err(fault) = value_fault(s, at, update, st.aall, st.nall, table) {
+            return Err(refuse(VALUE, k, fault.at));
         }
         st = passed(s, at, update, st);
         at = record_end(s, at);
-        k += 1;
     }
     if st.stage < 2 {
-        return refuse(LAYOUT, k, s.len());
+        return Err(refuse(LAYOUT, n, s.len()));
     }
-    refuse(0, 0, 0)
+    Ok(())
 }
 
 // A table in which no label is met: a number for each of the 65,536 labels that two bytes can name.
@@ -140,23 +138,21 @@ fn blank() -> [u32; 65536]
 
 // The first thing in a framed file of n records that breaks Described, Layout or Value, where the
 // records before the one reached are known to be good.
-pub fn read_fault_from(s: &[u8], n: usize, from: Reached, update: bool) -> Refusal
-    requires { (frame_of s.now ≡ Framed.Records n) × (length s.now ≤ most_bytes) × ReadTo update s.now n from }
-    ensures { result ≡ read_fault update s.now n }
+pub fn read_fault_from(s: &[u8], n: usize, from: Reached, update: bool) -> Result<(), Refusal>
+    requires { (frame_of s.now ≡ Ok n) × (length s.now ≤ most_bytes) × ReadTo update s.now n from }
+    ensures { result ≡ outcome (read_fault update s.now n) }
 {
-    let d = described(s);
-    if !d.good {
-        return refuse(DESCRIBED, 0, 0);
-    }
-    let marks = d.marks;
+    let Some(marks) = described(s) else {
+        return Err(refuse(DESCRIBED, 0, 0));
+    };
     let mut table = blank();
     records_fault(s, n, from, &marks, update, &mut table)
 }
 
 // The same from record 1 on.
-pub fn read_fault(s: &[u8], n: usize, update: bool) -> Refusal
-    requires { (frame_of s.now ≡ Framed.Records n) × (length s.now ≤ most_bytes) }
-    ensures { result ≡ read_fault update s.now n }
+pub fn read_fault(s: &[u8], n: usize, update: bool) -> Result<(), Refusal>
+    requires { (frame_of s.now ≡ Ok n) × (length s.now ≤ most_bytes) }
+    ensures { result ≡ outcome (read_fault update s.now n) }
 {
     read_fault_from(s, n, start_at(record_end(s, 0)), update)
 }

@@ -1,7 +1,6 @@
 // DSSI's counts against the records of a cell: one pass over the records, then six comparisons.
 ghost use Rattle.std.specs.Prelude.{◌+◌, ◌≤◌, false, cond, ◌≡◌, length, eqb};
 ghost use Rattle.octets.specs.Number.{num_at};
-ghost use Rattle.iso8211.specs.Premises.{HeadOf};
 ghost use Rattle.iso8211.specs.File.{record_at};
 ghost use Rattle.counted.specs.Counts.{counts_good};
 ghost use Rattle.counted.specs.Tallies.{with_vector, with_feature, with_record, tally_of, AtMost, vectors_good, tally_good};
@@ -9,7 +8,7 @@ ghost use Rattle.items.specs.Premises.{LaidOut, Identified};
 ghost use Rattle.names.specs.Premises.{Readable};
 ghost use Rattle.layout.specs.Premises.{DssiThere};
 
-use iso8211::field::{Head, field_at, head_of, record_end};
+use iso8211::field::{Record, head_of, record_end};
 use items::identity::{objl_of, rcnm_of};
 use octets::number::get4;
 use table::offsets;
@@ -30,10 +29,7 @@ pub struct Tally {
 fn one(is: bool) -> u32
     ensures { (result ≡ cond is 1 0) × (result ≤ 1) }
 {
-    if is {
-        return 1;
-    }
-    0
+    u32::from(is)
 }
 
 // The tally with a vector of this RCNM.
@@ -67,13 +63,13 @@ pub fn add_feature(t: Tally, objl: u32) -> Tally
 }
 
 // The tally with the record at `at`.
-fn add(t: Tally, s: &[u8], at: usize, h: Head) -> Tally
-    requires { AtMost 5242880 t × LaidOut s.now at × HeadOf s.now at h × Identified s.now at }
-    ensures { result ≡ with_record t s.now at }
+fn add(t: Tally, r: &Record) -> Tally
+    requires { AtMost 5242880 t × LaidOut r.now.file.now r.now.at × Identified r.now.file.now r.now.at }
+    ensures { result ≡ with_record t r.now.file.now r.now.at }
 {
-    let rcnm = rcnm_of(s, at, h);
+    let rcnm = rcnm_of(r);
     if rcnm == 100 {
-        return add_feature(t, objl_of(s, at, h));
+        return add_feature(t, objl_of(r));
     }
     add_vector(t, rcnm)
 }
@@ -102,12 +98,15 @@ fn tally_of(s: &[u8], n: usize) -> Tally
         edges: 0,
     };
     let mut at = third_at(s, n);
-    let mut k: usize = 3;
-    while k < n {
+    for _ in 3..n {
         let h = head_of(s, at);
-        t = add(t, s, at, h);
+        let r = Record {
+            file: s,
+            at,
+            head: h,
+        };
+        t = add(t, &r);
         at = record_end(s, at);
-        k += 1;
     }
     t
 }
@@ -157,7 +156,12 @@ pub fn tally_counts(s: &[u8], n: usize, t: Tally) -> bool
     ensures { result ≡ counts_good s.now n }
 {
     let at = record_end(s, 0);
-    let f = field_at(s, at, head_of(s, at), 2);
+    let f = Record {
+        file: s,
+        at,
+        head: head_of(s, at),
+    }
+    .field(2);
     let start = f.start;
     tally_good(s, start, t)
 }

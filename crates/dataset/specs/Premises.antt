@@ -1,5 +1,5 @@
 -- What the code knows of a DSID that is laid out. It serves the proofs, and nothing here need be believed. Assumes nothing.
-use Rattle.std.specs.Prelude.{ℕ, ◌+◌, ◌-◌, ◌≤◌, ◌<◌, List, ◌≡◌, length}
+use Rattle.std.specs.Prelude.{ℕ, ◌+◌, ◌≤◌, ◌<◌, List, ◌≡◌, length}
 use Rattle.dataset.specs.declared.Ends.{Ends}
 use Rattle.table.specs.Offsets.{DSID_DSNM}
 use Rattle.dataset.specs.Dsid.{dsid_ends}

@@ -4,6 +4,7 @@
 #![tactic(auto)]
 
 ghost use Rattle.std.specs.Prelude.{◌+◌, ◌≤◌, ◌≡◌, length};
+ghost use Rattle.values.specs.Fault.{told};
 ghost use Rattle.dataset.specs.Dsid.{dsid_ends, dsid_laid, is_code, codes_at, extension_good, dsnm_good, updn_good, uadt_good, sted_good, pred_good, head_fault, names_fault};
 ghost use Rattle.dataset.specs.Dsid.{issue_fault, product_fault, dsid_fault};
 ghost use Rattle.dataset.specs.Premises.{Filled, DsidLaid};
@@ -13,7 +14,7 @@ use headvalues::text::{text_end, text_good_in};
 use octets::digits::get_digits;
 use octets::number::wide;
 use table::offsets;
-use values::fault::{fault_at, first};
+use values::fault::{Fault, holds};
 use values::rule::{digits_within, profile, rcid_good, within};
 
 // Where the six texts of a DSID end, each at its 1F.
@@ -58,16 +59,7 @@ pub fn dsid_laid(f: &[u8]) -> bool
 fn is_code(b: u8) -> bool
     ensures { result ≡ is_code b }
 {
-    if b < 48 {
-        return false;
-    }
-    if b <= 57 {
-        return true;
-    }
-    if b < 65 {
-        return false;
-    }
-    b <= 90
+    b.is_ascii_uppercase() || b.is_ascii_digit()
 }
 
 // Whether the n bytes from `at` on are.
@@ -75,12 +67,10 @@ fn codes_at(f: &[u8], at: usize, n: usize) -> bool
     requires { at + n ≤ length f.now }
     ensures { result ≡ codes_at n f.now at }
 {
-    let mut k: usize = 0;
-    while k < n {
+    for k in 0..n {
         if !is_code(f[at + k]) {
             return false;
         }
-        k += 1;
     }
     true
 }
@@ -89,10 +79,7 @@ fn codes_at(f: &[u8], at: usize, n: usize) -> bool
 fn extension_good(n: u32, update: bool) -> bool
     ensures { result ≡ extension_good update n }
 {
-    if update {
-        return n <= 999;
-    }
-    n == 0
+    if update { n <= 999 } else { n == 0 }
 }
 
 // Whether the text up to `end` is a DSNM.
@@ -117,11 +104,7 @@ fn updn_good(f: &[u8], from: usize, to: usize, update: bool) -> bool
     if !update {
         return digits_within(f, from, to, 3, 0, 999);
     }
-    if !digits_within(f, from, to, 3, 1, 999) {
-        return false;
-    }
-    let n = to - from;
-    get_digits(f, 16, 3) == get_digits(f, from, n)
+    digits_within(f, from, to, 3, 1, 999) && get_digits(f, 16, 3) == get_digits(f, from, to - from)
 }
 
 // Whether the eight bytes from `at` on are an UADT: in a cell a date.
@@ -130,9 +113,10 @@ fn uadt_good(f: &[u8], at: usize, update: bool) -> bool
     ensures { result ≡ uadt_good update f.now at }
 {
     if update {
-        return text_good_in(f, at, at + 8, false);
+        text_good_in(f, at, at + 8, false)
+    } else {
+        date_good(f, at)
     }
-    date_good(f, at)
 }
 
 // Whether the four bytes from `at` on are the STED.
@@ -140,16 +124,7 @@ fn sted_good(f: &[u8], at: usize) -> bool
     requires { at + 4 ≤ length f.now }
     ensures { result ≡ sted_good f.now at }
 {
-    if f[at] != 48 {
-        return false;
-    }
-    if f[at + 1] != 51 {
-        return false;
-    }
-    if f[at + 2] != 46 {
-        return false;
-    }
-    f[at + 3] == 49
+    &f[at..at + 4] == b"03.1".as_slice()
 }
 
 // Whether the text is the PRED.
@@ -157,83 +132,69 @@ fn pred_good(f: &[u8], from: usize, to: usize) -> bool
     requires { (from ≤ to) × (to ≤ length f.now) }
     ensures { result ≡ pred_good f.now from to }
 {
-    if to != from + 3 {
-        return false;
-    }
-    if f[from] != 50 {
-        return false;
-    }
-    if f[from + 1] != 46 {
-        return false;
-    }
-    f[from + 2] == 48
+    &f[from..to] == b"2.0".as_slice()
 }
 
 // The fault among RCNM, RCID, EXPP and INTU.
-fn head_fault(f: &[u8], update: bool) -> usize
+fn head_fault(f: &[u8], update: bool) -> Result<(), Fault>
     requires { 7 ≤ length f.now }
-    ensures { result ≡ head_fault update f.now }
+    ensures { result ≡ told (head_fault update f.now) }
 {
-    let rcnm = fault_at(0, f[0] == 10);
-    let rcid = fault_at(offsets::RCID, rcid_good(f, offsets::RCID));
-    let expp = fault_at(offsets::DSID_EXPP, f[offsets::DSID_EXPP] == profile(update));
-    let intu = fault_at(
-        offsets::DSID_INTU,
+    holds(f[0] == 10, 0)?;
+    holds(rcid_good(f, offsets::RCID), offsets::RCID)?;
+    holds(f[offsets::DSID_EXPP] == profile(update), offsets::DSID_EXPP)?;
+    holds(
         within(wide(f[offsets::DSID_INTU]), 1, 6),
-    );
-    first(rcnm, first(rcid, first(expp, intu)))
+        offsets::DSID_INTU,
+    )
 }
 
 // The fault among DSNM, EDTN and UPDN.
-fn names_fault(f: &[u8], e: Ends, update: bool) -> usize
+fn names_fault(f: &[u8], e: Ends, update: bool) -> Result<(), Fault>
     requires { Filled f.now e }
-    ensures { result ≡ names_fault update f.now e }
+    ensures { result ≡ told (names_fault update f.now e) }
 {
     let edtn = e.dsnm + 1;
     let updn = e.edtn + 1;
-    let name = fault_at(offsets::DSID_DSNM, dsnm_good(f, e.dsnm, update));
-    let edition = fault_at(edtn, digits_within(f, edtn, e.edtn, 4, 1, 9999));
-    let number = fault_at(updn, updn_good(f, updn, e.updn, update));
-    first(name, first(edition, number))
+    holds(dsnm_good(f, e.dsnm, update), offsets::DSID_DSNM)?;
+    holds(digits_within(f, edtn, e.edtn, 4, 1, 9999), edtn)?;
+    holds(updn_good(f, updn, e.updn, update), updn)
 }
 
 // The fault among UADT, ISDT, STED and PRSP, of which the first begins at `at`.
-fn issue_fault(f: &[u8], at: usize, update: bool) -> usize
+fn issue_fault(f: &[u8], at: usize, update: bool) -> Result<(), Fault>
     requires { at + 21 ≤ length f.now }
-    ensures { result ≡ issue_fault update f.now at }
+    ensures { result ≡ told (issue_fault update f.now at) }
 {
-    let uadt = fault_at(at, uadt_good(f, at, update));
-    let isdt = fault_at(at + 8, date_good(f, at + 8));
-    let sted = fault_at(at + 16, sted_good(f, at + 16));
-    let prsp = fault_at(at + 20, f[at + 20] == 1);
-    first(uadt, first(isdt, first(sted, prsp)))
+    holds(uadt_good(f, at, update), at)?;
+    holds(date_good(f, at + 8), at + 8)?;
+    holds(sted_good(f, at + 16), at + 16)?;
+    holds(f[at + 20] == 1, at + 20)
 }
 
 // The fault among PSDN, PRED, PROF and COMT.
-fn product_fault(f: &[u8], e: Ends, update: bool) -> usize
+fn product_fault(f: &[u8], e: Ends, update: bool) -> Result<(), Fault>
     requires { Filled f.now e }
-    ensures { result ≡ product_fault update f.now e }
+    ensures { result ≡ told (product_fault update f.now e) }
 {
     let psdn = e.updn + 22;
     let pred = e.psdn + 1;
     let prof = e.pred + 1;
     let comt = e.pred + 4;
-    let empty = fault_at(psdn, e.psdn == psdn);
-    let product = fault_at(pred, pred_good(f, pred, e.pred));
-    let profiled = fault_at(prof, f[prof] == profile(update));
-    let comment = fault_at(comt, text_good_in(f, comt, e.comt, false));
-    first(empty, first(product, first(profiled, comment)))
+    holds(e.psdn == psdn, psdn)?;
+    holds(pred_good(f, pred, e.pred), pred)?;
+    holds(f[prof] == profile(update), prof)?;
+    holds(text_good_in(f, comt, e.comt, false), comt)
 }
 
 // The fault of a DSID.
-pub fn dsid_fault(f: &[u8], update: bool) -> usize
+pub fn dsid_fault(f: &[u8], update: bool) -> Result<(), Fault>
     requires { DsidLaid f.now }
-    ensures { result ≡ dsid_fault update f.now }
+    ensures { result ≡ told (dsid_fault update f.now) }
 {
     let e = dsid_ends(f);
-    let head = head_fault(f, update);
-    let names = names_fault(f, e, update);
-    let issue = issue_fault(f, e.updn + 1, update);
-    let product = product_fault(f, e, update);
-    first(head, first(names, first(issue, product)))
+    head_fault(f, update)?;
+    names_fault(f, e, update)?;
+    issue_fault(f, e.updn + 1, update)?;
+    product_fault(f, e, update)
 }

@@ -4,9 +4,7 @@
 #![tactic(auto)]
 
 pub mod field;
-pub mod marks;
 pub mod texts;
 
 // The same of a field in its file.
 pub use field::describes_at;
-pub use marks::refused;

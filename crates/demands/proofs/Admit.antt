@@ -18,7 +18,7 @@ use Rattle.answers.proofs.AnswerLaws.{filed_told, filed_tested}
 use Rattle.readboth.proofs.CallLaws.{opening_told, work_on, work_told}
 use Rattle.reader.specs.Reader.{front_of, count_in, work_answer}
 use Rattle.answers.specs.declared.answer.Answer.{Answer}
-use Rattle.reader.specs.declared.front.Front.TheVariants.{Count}
+use Rattle.std.specs.Prelude.{Ok}
 use Rattle.held.specs.Chart.{Chart, chart_of}
 use Rattle.held.specs.Held.{held_of}
 use Rattle.held.specs.Limits.{fits, record_count}
@@ -44,7 +44,7 @@ held_told o c h =
 
 -- what is known of a cell that is accepted
 record Accepted (s : List ℕ) (w o : ℕ) : Type 0 where
-  opened : front_of 1 s ≡ Count (count_in s)
+  opened : front_of 1 s ≡ Ok (count_in s)
   verdict : (cell_verdict s (count_in s)).code ≡ 0
   fit : fits (cell_chart s) ≡ true
   room : 16 * count_in s ≤ w
@@ -73,7 +73,7 @@ held_done : (o : ℕ) (c : Chart) → fits c ≡ true → length (held_of c) ≤
 unfolding held_answer
 held_done o c fit long = rw (fit, le-ltb o (length (held_of c)) long)
 
-admit_done : (s : List ℕ) (w o n : ℕ) → front_of 1 s ≡ Count n → 16 * n ≤ w → (cell_verdict s n).code ≡ 0 → fits (chart_of s n) ≡ true → length (held_of (chart_of s n)) ≤ o
+admit_done : (s : List ℕ) (w o n : ℕ) → front_of 1 s ≡ Ok n → 16 * n ≤ w → (cell_verdict s n).code ≡ 0 → fits (chart_of s n) ≡ true → length (held_of (chart_of s n)) ≤ o
     → admit_of s w o ≡ answer 0 0 0 (length (held_of (chart_of s n))) 0
 admit_done s w o n front room verdict fit long =
     admit_opened s n front w o ∙ work_on w n (first_answer (filed 1 (cell_verdict s n)) (held_answer o (chart_of s n))) room

@@ -20,7 +20,7 @@ use Rattle.answers.proofs.AnswerLaws.{filed_told, filed_tested}
 use Rattle.readboth.proofs.CallLaws.{opening_told, work_on, work_told}
 use Rattle.reader.specs.Reader.{front_of, fronted, opening, count_in, work_answer, cell_fault, update_fault}
 use Rattle.answers.specs.declared.answer.Answer.{Answer}
-use Rattle.reader.specs.declared.front.Front.TheVariants.{Count}
+use Rattle.std.specs.Prelude.{Ok}
 use Rattle.held.specs.Chart.{Chart, chart_of}
 use Rattle.held.specs.Held.{held_of}
 use Rattle.held.specs.Limits.{fits, record_count}
@@ -58,8 +58,8 @@ placed_told s r h =
 
 -- what is known of a file that is accepted on a cell
 record Accepted (cell file : List ℕ) (w o : ℕ) : Type 0 where
-  opened : front_of 1 cell ≡ Count (count_in cell)
-  second : front_of 2 file ≡ Count (changes_in file)
+  opened : front_of 1 cell ≡ Ok (count_in cell)
+  second : front_of 2 file ≡ Ok (changes_in file)
   room : 16 * (count_in cell + changes_in file) ≤ w
   cell_fine : (cell_fault cell (count_in cell)).code ≡ 0
   file_fine : (update_fault file (changes_in file)).code ≡ 0
@@ -98,7 +98,7 @@ accepted cell file w o h =
     }
 
 -- ---- into an answer: of opened files
-apply_opened : (cell : List ℕ) (n : ℕ) (file : List ℕ) (m : ℕ) → front_of 1 cell ≡ Count n → front_of 2 file ≡ Count m → (w o : ℕ)
+apply_opened : (cell : List ℕ) (n : ℕ) (file : List ℕ) (m : ℕ) → front_of 1 cell ≡ Ok n → front_of 2 file ≡ Ok m → (w o : ℕ)
     → apply_of cell file w o ≡ first_answer (work_answer w (n + m)) (read_answer cell n file m o)
 unfolding apply_of fronted
 apply_opened cell n file m opened second w o = rw (opened, second)

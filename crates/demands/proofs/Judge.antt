@@ -10,7 +10,7 @@ use Rattle.answers.specs.declared.refusal.Refusal.{Refusal}
 use Rattle.answers.specs.declared.answer.Answer.{Answer}
 use Rattle.answers.proofs.FirstLaws.{first_told, first_tested}
 use Rattle.answers.proofs.AnswerLaws.{filed_told, filed_tested}
-use Rattle.reader.specs.declared.front.Front.TheVariants.{Count}
+use Rattle.std.specs.Prelude.{Ok}
 use Rattle.topology.specs.Topology.{topology_fault}
 use Rattle.held.specs.Chart.{chart_of}
 use Rattle.judging.specs.Judge.{cell_verdict, judge_of}
@@ -25,19 +25,19 @@ use Rattle.demands.proofs.TopologyLaws.{cell_topology}
 use Rattle.demands.proofs.SoundLaws.{sound_told, sound_tested}
 
 -- of a file that opens and has no code of 4 to 8, the topology is that of its chart
-same_topology : (s : List ℕ) (n : ℕ) → Bytes s → front_of 1 s ≡ Count n → (cell_fault s n).code ≡ 0 → (topology_fault s n).code ≡ (chart_topology (chart_of s n)).code
+same_topology : (s : List ℕ) (n : ℕ) → Bytes s → front_of 1 s ≡ Ok n → (cell_fault s n).code ≡ 0 → (topology_fault s n).code ≡ (chart_topology (chart_of s n)).code
 same_topology s n bytes opened fine =
     let f = front_opened 1 s n opened in
     let t = cell_parts s n fine in
     cell_topology s n f.framed f.short bytes.small t.0 t.1
 
-pub verdict_sound : (s : List ℕ) (n : ℕ) → Bytes s → front_of 1 s ≡ Count n → (cell_verdict s n).code ≡ 0 → ((cell_fault s n).code ≡ 0) × Sound (chart_of s n)
+pub verdict_sound : (s : List ℕ) (n : ℕ) → Bytes s → front_of 1 s ≡ Ok n → (cell_verdict s n).code ≡ 0 → ((cell_fault s n).code ≡ 0) × Sound (chart_of s n)
 unfolding cell_verdict
 verdict_sound s n bytes opened h =
     let p = first_told (λ (r : Refusal). r.code) (cell_fault s n) (topology_fault s n) h in
     (p.0, sound_told (chart_of s n) (sym (same_topology s n bytes opened p.0) ∙ p.2))
 
-pub sound_verdict : (s : List ℕ) (n : ℕ) → Bytes s → front_of 1 s ≡ Count n → (cell_fault s n).code ≡ 0 → Sound (chart_of s n) → (cell_verdict s n).code ≡ 0
+pub sound_verdict : (s : List ℕ) (n : ℕ) → Bytes s → front_of 1 s ≡ Ok n → (cell_fault s n).code ≡ 0 → Sound (chart_of s n) → (cell_verdict s n).code ≡ 0
 unfolding cell_verdict
 sound_verdict s n bytes opened fine so =
     first_tested (λ (r : Refusal). r.code) (cell_fault s n) (topology_fault s n) fine (same_topology s n bytes opened fine ∙ sound_tested (chart_of s n) so)

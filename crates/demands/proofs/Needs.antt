@@ -8,7 +8,7 @@ use borrow.Author.Tests.{le-ltb, lt-ltb, eq-eqb}
 use Rattle.answers.specs.Answer.{answer, filed}
 use Rattle.answers.specs.First.{first_by}
 use Rattle.reader.specs.Reader.{front_of, cell_fault, update_fault, work_answer, fronted, records_in, count_in}
-use Rattle.reader.specs.declared.front.Front.TheVariants.{Count}
+use Rattle.std.specs.Prelude.{Ok}
 use Rattle.held.specs.Held.{held_of}
 use Rattle.held.specs.Limits.{Fits}
 use Rattle.held.proofs.LimitsLaws.{fits_tested}
@@ -25,15 +25,15 @@ use Rattle.demands.proofs.SoundLaws.{sound_tested}
 use Rattle.demands.proofs.Judge.{sound_verdict}
 
 -- ---- 3
-pub judge_work : (cell : List ℕ) (w : ℕ) → front_of 1 cell ≡ Count (count_in cell) → w < 16 * count_in cell → judge_of cell w ≡ answer 3 0 0 (16 * count_in cell) 0
+pub judge_work : (cell : List ℕ) (w : ℕ) → front_of 1 cell ≡ Ok (count_in cell) → w < 16 * count_in cell → judge_of cell w ≡ answer 3 0 0 (16 * count_in cell) 0
 unfolding judge_of fronted work_answer first_by records_in
 judge_work cell w opened short = rw (opened, lt-ltb w (16 * count_in cell) short)
 
-pub admit_work : (cell : List ℕ) (w o : ℕ) → front_of 1 cell ≡ Count (count_in cell) → w < 16 * count_in cell → admit_of cell w o ≡ answer 3 0 0 (16 * count_in cell) 0
+pub admit_work : (cell : List ℕ) (w o : ℕ) → front_of 1 cell ≡ Ok (count_in cell) → w < 16 * count_in cell → admit_of cell w o ≡ answer 3 0 0 (16 * count_in cell) 0
 unfolding admit_of fronted work_answer first_by records_in
 admit_work cell w o opened short = rw (opened, lt-ltb w (16 * count_in cell) short)
 
-pub apply_work : (cell file : List ℕ) (w o : ℕ) → front_of 1 cell ≡ Count (count_in cell) → front_of 2 file ≡ Count (changes_in file)
+pub apply_work : (cell file : List ℕ) (w o : ℕ) → front_of 1 cell ≡ Ok (count_in cell) → front_of 2 file ≡ Ok (changes_in file)
     → w < 16 * (count_in cell + changes_in file) → apply_of cell file w o ≡ answer 3 0 0 (16 * (count_in cell + changes_in file)) 0
 unfolding apply_of fronted work_answer first_by records_in
 apply_work cell file w o opened second short = rw (opened, second, lt-ltb w (16 * (count_in cell + changes_in file)) short)

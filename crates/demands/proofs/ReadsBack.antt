@@ -16,7 +16,7 @@ use Rattle.topology.specs.Topology.{topology_fault}
 use Rattle.judging.proofs.JudgeLaws.{judge_opened}
 use Rattle.loader.proofs.AdmitLaws.{admit_opened}
 use Rattle.reader.specs.Reader.{framed_front, front_of, records_in, count_in, twice_refusal, counts_refusal, cell_fault}
-use Rattle.reader.specs.declared.front.Front.TheVariants.{Count}
+use Rattle.std.specs.Prelude.{Ok}
 use Rattle.held.specs.Chart.{Chart, chart_of}
 use Rattle.held.specs.Held.{held_of}
 use Rattle.held.specs.Limits.{record_count}
@@ -33,7 +33,7 @@ module _ (c : Chart) (good : Good c) where
   there : HeldRead c
   there = reads_back c good.values good.limits
 
-  held_opened : front_of 1 (held_of c) ≡ Count (record_count c)
+  held_opened : front_of 1 (held_of c) ≡ Ok (record_count c)
   unfolding front_of framed_front
   held_opened = rw (le-ltb 5242880 (length (held_of c)) good.limits.short, there.framed)
 

@@ -1,9 +1,8 @@
 -- A readable cell, without a work area: what demand 2 speaks of. What it means is `cell_chart`. Assumes nothing.
-use Rattle.std.specs.Prelude.{ℕ, ◌*◌, ◌≤◌, ◌<◌, List, ◌≡◌, length}
+use Rattle.std.specs.Prelude.{ℕ, ◌*◌, ◌≤◌, ◌<◌, List, ◌≡◌, length, Ok}
 use Rattle.octets.specs.Number.{byte_at}
 use Rattle.answers.specs.Codes.{work_each}
 use Rattle.reader.specs.Reader.{front_of, count_in, cell_fault}
-use Rattle.reader.specs.declared.front.Front.TheVariants.{Count}
 use Rattle.held.specs.Held.{held_of}
 use Rattle.loader.specs.Admit.{cell_chart}
 
@@ -13,7 +12,7 @@ pub record Bytes (s : List ℕ) : Type 0 where
 
 -- a cell that passes codes 1, 2 and 4 to 8
 pub record Readable (s : List ℕ) : Type 0 where
-  pub opened : front_of 1 s ≡ Count (count_in s)
+  pub opened : front_of 1 s ≡ Ok (count_in s)
   pub fine : (cell_fault s (count_in s)).code ≡ 0
 
 -- the areas suffice: w bytes of work, o of output

@@ -1,9 +1,8 @@
 -- A file that reads as an update, what it is on a chart, and the areas that Apply takes: what demand 2 speaks of. What it means is `file_change`, what it makes of a chart
 -- `updated_by`. Assumes nothing.
-use Rattle.std.specs.Prelude.{ℕ, ◌+◌, ◌*◌, ◌≤◌, List, ◌≡◌, length}
+use Rattle.std.specs.Prelude.{ℕ, ◌+◌, ◌*◌, ◌≤◌, List, ◌≡◌, length, Ok}
 use Rattle.answers.specs.Codes.{work_each}
 use Rattle.reader.specs.Reader.{front_of, count_in, update_fault}
-use Rattle.reader.specs.declared.front.Front.TheVariants.{Count}
 use Rattle.held.specs.Chart.{Chart}
 use Rattle.held.specs.Held.{held_of}
 use Rattle.held.specs.Limits.{Fits}
@@ -14,7 +13,7 @@ use Rattle.demands.specs.Sound.{Sound}
 
 -- an update that passes codes 1, 2 and 4 to 7
 pub record ReadableUpdate (file : List ℕ) : Type 0 where
-  pub opened : front_of 2 file ≡ Count (changes_in file)
+  pub opened : front_of 2 file ≡ Ok (changes_in file)
   pub fine : (update_fault file (changes_in file)).code ≡ 0
 
 -- ---- a file that may be worked into a chart: it is readable, follows and keeps the rules of updates, and its result keeps those of topology and the limits:

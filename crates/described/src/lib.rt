@@ -3,7 +3,7 @@
 // the table from `declarations`.
 #![tactic(auto)]
 
-ghost use Rattle.std.specs.Prelude.{◌≡◌, ◌-◌, length};
+ghost use Rattle.std.specs.Prelude.{◌≡◌, ◌-◌, length, IfSome};
 ghost use Rattle.table.specs.Table.{kind_count};
 ghost use Rattle.iso8211.specs.Field.{count_at};
 ghost use Rattle.iso8211.specs.Premises.{HeadOf, RecordIn};
@@ -11,56 +11,63 @@ ghost use Rattle.declarations.specs.Described.{described_from, described_of, non
 ghost use Rattle.declarations.specs.Premises.{marks_of};
 
 use declarations::field::describes_at;
-use declarations::marks::{Described, refused};
-use iso8211::field::{Head, field_at, head_of};
+use iso8211::field::{Head, Record, head_of};
 use table::{kind_of, kinds, tags};
 
 // The fields behind 0000 and 0001: tags of the table, each at most once and as the table has it.
-fn rest(s: &[u8], head: Head) -> Described
+fn rest(s: &[u8], head: Head) -> Option<[u8; kinds::COUNT]>
     requires { RecordIn s.now 0 × HeadOf s.now 0 head }
-    ensures { (marks_of result ≡ described_from (count_at s.now 0 - 2) s.now 2 none) × (length result.marks ≡ kind_count) }
+    ensures { (marks_of result ≡ described_from (count_at s.now 0 - 2) s.now 2 none) × IfSome result (λ marks. length marks ≡ kind_count) }
 {
-    let count = head.count;
+    let record = Record {
+        file: s,
+        at: 0,
+        head,
+    };
     let mut marks = [0u8; kinds::COUNT];
     marks[kinds::FIRST] = 1;
-    let mut j: usize = 2;
-    while j < count {
-        let next = field_at(s, 0, head, j);
+    for j in 2..head.count {
+        let next = record.field(j);
         let k = kind_of(next.tag);
         if kinds::FIRST <= k {
-            return refused();
+            return None;
         }
         if marks[k] != 0 {
-            return refused();
+            return None;
         }
         if !describes_at(s, next, k) {
-            return refused();
+            return None;
         }
         marks[k] = 1;
-        j += 1;
     }
-    Described { good: true, marks }
+    Some(marks)
 }
 
-// The kinds that record 0 declares, or that it breaks its rule.
-pub fn described(s: &[u8]) -> Described
+// The kinds that record 0 declares, by their number in the table: 1 where one is. None where it breaks
+// its rule.
+pub fn described(s: &[u8]) -> Option<[u8; kinds::COUNT]>
     requires { RecordIn s.now 0 }
-    ensures { (marks_of result ≡ described_of s.now) × (length result.marks ≡ kind_count) }
+    ensures { (marks_of result ≡ described_of s.now) × IfSome result (λ marks. length marks ≡ kind_count) }
 {
     let head = head_of(s, 0);
+    let record = Record {
+        file: s,
+        at: 0,
+        head,
+    };
     if head.count < 2 {
-        return refused();
+        return None;
     }
-    let zero = field_at(s, 0, head, 0);
+    let zero = record.field(0);
     if zero.tag != tags::ZERO {
-        return refused();
+        return None;
     }
-    let one = field_at(s, 0, head, 1);
+    let one = record.field(1);
     if one.tag != tags::FIRST {
-        return refused();
+        return None;
     }
     if !describes_at(s, one, kinds::FIRST) {
-        return refused();
+        return None;
     }
     rest(s, head)
 }

@@ -1,6 +1,6 @@
 -- Laws of the places at which entries start: the bytes before a place are the entries before it, and from a place on stand the
 -- entries from it on. For shapes without text entry k starts at k times the fixed bytes, and a division counts them. Assumes nothing.
-use Prim.Native.Nat.{ℕ, zero, suc, ◌+◌, ◌-◌, ◌*◌, ◌/◌, ◌≤◌, ◌<◌}
+use Prim.Native.Nat.{ℕ, zero, suc, ◌+◌, ◌-◌, ◌*◌, ◌/◌, ◌≤◌, ◌<◌, min}
 use mathlib.Core.Bool.{true}
 use mathlib.Core.List.{List, [], ◌∷◌, ◌++◌, flatten, append_assoc, append-nil}
 use mathlib.Core.Path.{◌≡◌, refl, sym, ap, ◌∙◌}
@@ -165,18 +165,14 @@ pub even_extent : (sh : Shape) (bs : List ℕ) → Sound sh → sh.unit ≡ 0
 even_extent sh bs sound bare = rw (fixed_end sh bs bare, bare_count sh bare sound.some bs)
 
 -- ---- the same from an extent in hand
-module _ (sh : Shape) (bs : List ℕ) (k : ℕ) (all : Extent) (is : all ≡ extent_of sh bs) where
-  module _ (here : k < all.count) where
-    below : k ≤ length (entries_of sh bs)
-    below = let count = ap (λ (x : Extent). x.count) is in omega arith
-
-    pub even_place : sh.unit ≡ 0 → k * sh.fixed ≡ place sh k bs
-    even_place bare = sym (fixed_place sh k bs bare below)
-
-    pub even_within : sh.unit ≡ 0 → k * sh.fixed ≤ length bs
-    even_within bare = rw (even_place bare) (place_within sh k bs)
-
-  pub even_past : all.count ≤ k → all.end ≡ place sh k bs
-  even_past past =
+module _ (sh : Shape) (bs : List ℕ) (k m : ℕ) (all : Extent) (is : all ≡ extent_of sh bs) (least : m ≡ min k all.count) (bare : sh.unit ≡ 0) where
+  pub even_place : m * sh.fixed ≡ place sh k bs
+  even_place =
       let count = ap (λ (x : Extent). x.count) is in
-      ap (λ (x : Extent). x.end) is ∙ sym (place_end sh k bs (omega arith))
+      ⊎_elim
+      (λ (h : k ≤ all.count). let e : m ≡ k = omega arith in rw e (sym (fixed_place sh k bs bare (omega arith))))
+      (λ (h : all.count < k). let e : m ≡ length (entries_of sh bs) = omega arith in rw e (sym (fixed_end sh bs bare) ∙ sym (place_end sh k bs (omega arith))))
+      (le_or_lt k all.count)
+
+  pub even_within : m * sh.fixed ≤ length bs
+  even_within = rw even_place (place_within sh k bs)

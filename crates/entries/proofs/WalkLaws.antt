@@ -133,19 +133,19 @@ module _ (sh : Shape) (b : List ℕ) (at count n : ℕ) (counts : length (entrie
       let rest = flatten (entries_of sh (drop (at + n) b)) in
       omega (arith, ends, ap (λ (es : List (List ℕ)). length (flatten es)) (walk_more sh b at n size h), length-append (take n (drop at b)) rest, long)
 
--- ---- turns of the walk to a place: `left` entries are to be passed yet
-module _ (sh : Shape) (b : List ℕ) (at k left : ℕ) (so : place sh k b ≡ at + place sh left (drop at b)) where
-  pub place_there : left ≤ 0 → at ≡ place sh k b
-  place_there h = let none : left ≡ 0 = omega arith in sym (so ∙ rw (none, place_first sh (drop at b)) (add-zero at))
+-- ---- turns of the walk to a place: i entries have been passed
+module _ (sh : Shape) (b : List ℕ) (at k i : ℕ) (so : place sh k b ≡ at + place sh (k - i) (drop at b)) where
+  pub place_there : k ≤ i → at ≡ place sh k b
+  place_there h = let none : k - i ≡ 0 = omega arith in sym (so ∙ rw (none, place_first sh (drop at b)) (add-zero at))
 
   module _ (n : ℕ) (size : n ≡ entry_len sh (drop at b)) where
     pub place_out : n ≡ 0 → at ≡ place sh k b
-    place_out h = sym (so ∙ rw (place_none sh left (drop at b) (sym size ∙ h)) (add-zero at))
+    place_out h = sym (so ∙ rw (place_none sh (k - i) (drop at b) (sym size ∙ h)) (add-zero at))
 
-    pub place_on : 0 < left → (n ≡ 0 → ⊥) → place sh k b ≡ at + n + place sh (left - 1) (drop (at + n) b)
+    pub place_on : i < k → (n ≡ 0 → ⊥) → place sh k b ≡ at + n + place sh (k - (i + 1)) (drop (at + n) b)
     place_on more h =
-        let one : left ≡ suc (left - 1) = omega arith in
-        let next = place_more sh (left - 1) (drop at b) (omega (arith, size, some_long n h)) in
-        let step : place sh left (drop at b) ≡ n + place sh (left - 1) (drop (at + n) b) =
+        let one : k - i ≡ suc (k - (i + 1)) = omega arith in
+        let next = place_more sh (k - (i + 1)) (drop at b) (omega (arith, size, some_long n h)) in
+        let step : place sh (k - i) (drop at b) ≡ n + place sh (k - (i + 1)) (drop (at + n) b) =
         ap (λ (j : ℕ). place sh j (drop at b)) one ∙ next ∙ rw (← size, drop-drop n at b) in
         omega (arith, so, step)

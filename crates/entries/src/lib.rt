@@ -8,7 +8,7 @@ ghost use Rattle.std.specs.Prelude.{◌+◌, ◌-◌, ◌≤◌, ◌≡◌, leng
 ghost use Rattle.entries.specs.Entries.{unit_of, text_len, entry_len, extent_of, whole_good};
 ghost use Rattle.entries.specs.Premises.{Sound, place};
 
-use octets::number::{get2, wide};
+use octets::number::get2;
 
 // How an entry looks: fixed bytes, then a text of units of `unit` bytes up to the unit 1F. Where
 // `unit` is 0 there is no text.
@@ -31,9 +31,10 @@ fn ends_at(b: &[u8], at: usize, unit: usize) -> bool
     ensures { result ≡ eqb (unit_of unit (drop at b.now)) 31 }
 {
     if unit == 1 {
-        return wide(b[at]) == 31;
+        b[at] == 31
+    } else {
+        get2(b, at) == 31
     }
-    get2(b, at) == 31
 }
 
 // The length of the text at `from`, its terminator and the bytes from `at` on that lead to it
@@ -43,6 +44,7 @@ fn led_text_len(b: &[u8], at: usize, from: usize, unit: usize) -> usize
     ensures { (result ≡ text_len unit (drop from b.now) (from - at)) × (at + result ≤ length b.now) }
 {
     let mut i = from;
+    // A while: the step is the unit's own width, and what is left at the end may be less than a unit.
     while unit <= b.len() - i {
         let past = i + unit;
         if ends_at(b, i, unit) {
@@ -101,6 +103,7 @@ pub fn extent_of(b: &[u8], sh: Shape) -> Extent
     }
     let mut at: usize = 0;
     let mut count: usize = 0;
+    // A loop: the step is the entry's own length, which also tells where the entries end.
     loop {
         let n = entry_len_at(b, at, sh);
         if n == 0 {
@@ -116,13 +119,8 @@ pub fn whole(b: &[u8], sh: Shape) -> bool
     requires { Sound sh }
     ensures { result ≡ whole_good sh b.now }
 {
-    let all = extent_of(b, sh);
-    let count = all.count;
-    let end = all.end;
-    if count < 1 {
-        return false;
-    }
-    end == b.len()
+    let Extent { count, end } = extent_of(b, sh);
+    1 <= count && end == b.len()
 }
 
 // The place of entry k where no entry has a text: a product.
@@ -130,11 +128,7 @@ fn even_place(b: &[u8], sh: Shape, k: usize) -> usize
     requires { Sound sh × (sh.unit ≡ 0) }
     ensures { (result ≡ place sh k b.now) × (result ≤ length b.now) }
 {
-    let all = even_extent(b, sh);
-    if k < all.count {
-        return k * sh.fixed;
-    }
-    all.end
+    k.min(even_extent(b, sh).count) * sh.fixed
 }
 
 // Where entry k starts; past the last, where the entries end.
@@ -146,14 +140,12 @@ pub fn place_of(b: &[u8], sh: Shape, k: usize) -> usize
         return even_place(b, sh, k);
     }
     let mut at: usize = 0;
-    let mut left = k;
-    while 0 < left {
+    for _ in 0..k {
         let n = entry_len_at(b, at, sh);
         if n == 0 {
-            return at;
+            break;
         }
         at += n;
-        left -= 1;
     }
     at
 }

@@ -6,7 +6,7 @@ use mathlib.Core.Path.{◌≡◌, refl, sym, ◌∙◌}
 use native.Mathlib.Omega.{arith}
 use lib.ListN.{length, take, drop, get_or}
 use lib.Dec.{eqb}
-use borrow.Author.Tests.{eqb-true, eq-eqb, not-false}
+use borrow.Author.Tests.{eq-eqb, not-false}
 use Rattle.octets.proofs.Tests.{told_yes}
 use Rattle.table.specs.Text.{bytes}
 use Rattle.table.specs.Table.{table, row_of, kind_of, among, as_number, VRPT, SG2D, ATTV, FRID, ATTF, NATF, FSPT}
@@ -14,6 +14,9 @@ use Rattle.values.specs.Vrid.{vrid_fault}
 use Rattle.values.specs.Frid.{frid_fault}
 use Rattle.layout.specs.Layout.{opens, follows, placed, filled, shape_of}
 use Rattle.fieldvalue.specs.Value.{is_attributes, field_fault}
+use Rattle.std.specs.Prelude.{Result, is_ok}
+use Rattle.values.specs.declared.fault.Fault.{Fault}
+use Rattle.values.proofs.FaultLaws.{told_ok, well}
 use Rattle.fieldvalue.specs.Judged.{PlainJudged}
 use Rattle.fieldvalue.proofs.ValueLaws.{plain_vrid, plain_frid, plain_ffpt, attributes_none, judged_attv, judged_attf, judged_natf, judged_plain}
 use Rattle.fieldfine.specs.Told.{content_in, PlainTold}
@@ -33,10 +36,10 @@ plain_no = record { full = λ e. never e; judged = λ e. never e }
 pub filled_so : (k : ℕ) (c : List ℕ) (w : Bool) → w ≡ filled k c → not w ≡ false → filled k c ≡ true
 filled_so k c w is yes_full = told_yes w _ is yes_full
 
-pub plain_so : {update : Bool} {k : ℕ} {c : List ℕ} {r : ℕ} (w : Bool) → w ≡ filled k c → not w ≡ false → PlainJudged update k c r → PlainTold update k c (eqb r 0)
+pub plain_so : {update : Bool} {k : ℕ} {c : List ℕ} {r : Result Unit Fault} (w : Bool) → w ≡ filled k c → not w ≡ false → PlainJudged update k c r → PlainTold update k c (is_ok r)
 plain_so {update} {k} {c} {r} w is yes_full j = record {
   full = λ e. told_yes w _ is yes_full;
-  judged = λ e. rw (eqb-true r 0 e) at j;
+  judged = λ e. rw (well r e) at j;
 }
 
 -- ---- a field that isn't fine
@@ -71,7 +74,7 @@ module _ {update : Bool} {stage : ℕ} {marks : List ℕ} {prev tag : ℕ} {c : 
     declared = marked;
     full = full;
     other = other;
-    judged = record { fault = none; within = omega arith };
+    judged = record { fault = λ aall nall seen. told_ok (sym (none aall nall seen)); within = tt };
   })
 
   pub field_first : tag ≡ 808464433 → SingleField (length c) 2 marks prev 20 18 r → PlainField update stage marks prev tag c r
@@ -123,7 +126,7 @@ module _ {update : Bool} {stage : ℕ} {marks : List ℕ} {prev tag : ℕ} {c : 
           declared = f.declared h;
           full = eq-eqb _ _ (f.long h);
           other = refl;
-          judged = plain_vrid (omega arith) refl (sym (f.fine h));
+          judged = plain_vrid tt refl (told_ok (f.fine h));
         });
   }
 
@@ -139,7 +142,7 @@ module _ {update : Bool} {stage : ℕ} {marks : List ℕ} {prev tag : ℕ} {c : 
           declared = f.declared h;
           full = eq-eqb _ _ (f.long h);
           other = refl;
-          judged = plain_frid (omega arith) refl (sym (f.fine h));
+          judged = plain_frid tt refl (told_ok (f.fine h));
         });
   }
 
@@ -153,7 +156,7 @@ module _ {update : Bool} {stage : ℕ} {marks : List ℕ} {prev tag : ℕ} {c : 
       declared = stands_declared marks prev 11 15 (f.stands h);
       full = (f.fine h).full refl;
       other = refl;
-      judged = plain_ffpt (omega arith) refl (sym ((f.fine h).judged refl));
+      judged = plain_ffpt tt refl (told_ok ((f.fine h).judged refl));
     });
   }
 

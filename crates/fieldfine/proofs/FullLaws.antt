@@ -1,5 +1,5 @@
 -- Laws of lists that fill their field: by a walk over the entries, or by the length alone where no entry has a text. Assumes nothing.
-use Prim.Native.Nat.{ℕ, zero, suc, ◌+◌, ◌-◌, ◌*◌, ◌/◌, ◌%◌, ◌≤◌, ◌<◌}
+use Prim.Native.Nat.{ℕ, zero, suc, ◌+◌, ◌*◌, ◌/◌, ◌%◌, ◌≤◌, ◌<◌}
 use mathlib.Core.Bool.{true}
 use mathlib.Core.List.{List, [], ◌∷◌, flatten}
 use mathlib.Core.Path.{◌≡◌, refl, sym, ap, ◌∙◌}

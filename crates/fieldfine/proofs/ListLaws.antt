@@ -11,6 +11,7 @@ use Rattle.entries.proofs.EntryLaws.{entry_short}
 use Rattle.attributes.specs.Attributes.{attribute, pointer, label_of}
 use Rattle.attributes.proofs.AttributesLaws.{Walked, walked_start, walked_on, walked_end}
 use Rattle.attributes.proofs.FfptLaws as ffpt
+use Rattle.values.proofs.FaultLaws.{told_none}
 use Rattle.fieldfine.specs.Told.{content_in, AttributesTold, PointersTold}
 use Rattle.fieldfine.specs.Text.{Ended, AttributeTold, PointerTold}
 use Rattle.fieldfine.proofs.TextLaws.{content_long}
@@ -94,5 +95,5 @@ pointing_end {d} at e so past low =
     let c = content_in d in
     record {
       full = λ h. filling_end at so.filling (omega arith) (omega arith) (not_zero at h);
-      judged = λ h. sym (ffpt.walked_end so.walked 0 (sym (entry_short pointer (drop at c) (let x = length-drop at c in omega arith))) refl);
+      judged = λ h. told_none _ (ffpt.walked_end so.walked 0 (sym (entry_short pointer (drop at c) (let x = length-drop at c in omega arith))) refl) refl;
     }

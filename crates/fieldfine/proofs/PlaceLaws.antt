@@ -15,6 +15,10 @@ use Rattle.values.specs.Fault.{fault_at, first}
 use Rattle.values.specs.Rule.{rcid_good, rver_good, ruin_good}
 use Rattle.values.specs.Vrid.{is_vector, vrid_fault}
 use Rattle.fieldfine.specs.Told.{groups_good, AttributesTold, PointersTold}
+use Rattle.std.specs.Prelude.{Result, is_err}
+use Rattle.values.specs.declared.fault.Fault.{Fault}
+use Rattle.values.specs.Fault.{told}
+use Rattle.values.proofs.FaultLaws.{told_none, no_err}
 use Rattle.fieldfine.specs.Place.{list_stands, NoFault, SingleField, IdentifierField, GroupsField, AttributesField, PointersField}
 
 -- ---- what holds of each number from `low` on, n + 1 of them, holds of any between
@@ -71,11 +75,17 @@ module _ {marks : List ℕ} {prev k r : ℕ} (e : r ≡ 20) where
 pub single_so : {marks : List ℕ} {n fixed prev behind k : ℕ} → n ≡ fixed → prev ≡ behind → get_or marks k 0 ≡ 1 → SingleField n fixed marks prev behind k k
 single_so long after marked = record { is = λ h. refl; long = λ h. long; after = λ h. after; declared = λ h. marked }
 
-pub identifier_so : {c marks : List ℕ} {fixed prev stage most k : ℕ} (fault f : ℕ) → length c ≡ fixed → get_or marks k 0 ≡ 1 → prev ≡ 18 → 2 ≤ stage → stage ≤ most
-    → f ≡ fault → f ≡ 0
+pub identifier_so : {c marks : List ℕ} {fixed prev stage most k fault : ℕ} (r : Result Unit Fault) (w : Bool) → length c ≡ fixed → get_or marks k 0 ≡ 1
+    → prev ≡ 18 → 2 ≤ stage → stage ≤ most → r ≡ told fault → w ≡ is_err r → w ≡ false
     → IdentifierField fixed fault c marks prev stage most k k
-identifier_so fault f long marked after low high is none =
-    record { is = λ h. refl; long = λ h. long; after = λ h. after; due = λ h. (low, high); declared = λ h. marked; fine = λ h. sym is ∙ none }
+identifier_so {fault = fault} r w long marked after low high is asked none = record {
+  is = λ h. refl;
+  long = λ h. long;
+  after = λ h. after;
+  due = λ h. (low, high);
+  declared = λ h. marked;
+  fine = λ h. told_none fault is (no_err r (sym asked ∙ none));
+}
 
 -- ---- the values of a VRID
 pub vrid_no : {fault : ℕ} → NoFault fault false

@@ -1,6 +1,6 @@
 -- Laws of a text that is read once, and of the entry that it ends. Assumes nothing.
 use Prim.Native.Nat.{ℕ, suc, ◌+◌, ◌-◌, ◌≤◌, ◌<◌}
-use mathlib.Core.Bool.{Bool, true, false, not, ◌&&◌, ◌||◌}
+use mathlib.Core.Bool.{Bool, true, false, ◌&&◌, ◌||◌}
 use mathlib.Core.List.{List, ◌∷◌}
 use mathlib.Core.Path.{◌≡◌, refl, sym, ap, ◌∙◌}
 use mathlib.Core.Logic.{⊎_elim}
@@ -14,7 +14,6 @@ use borrow.Author.Tests.{eq-eqb, le-leb}
 use Rattle.octets.specs.Number.{byte_at, num_at}
 use Rattle.octets.specs.Premises.{Reads}
 use Rattle.octets.proofs.Cases.{eq_or_ne}
-use Rattle.octets.proofs.Tests.{told_yes}
 use Rattle.entries.specs.declared.Shape.{Shape}
 use Rattle.entries.specs.Entries.{unit_of, text_len, entry_len}
 use Rattle.entries.proofs.TextLaws.{unit_drop, text_end_lem, text_on}
@@ -45,10 +44,9 @@ no_end high b is e =
     let z : ◌≡◌ {A = ℕ} 0 1 = cc in
     omega arith
 
-run_step : {high : Bool} {c : List ℕ} {from i : ℕ} (r : Bool) → TextRun high c from i → i < length c → r ≡ is_text high (byte_at c i) → not r ≡ false → TextRun high c from (i + 1)
+run_step : {high : Bool} {c : List ℕ} {from i : ℕ} → TextRun high c from i → i < length c → is_text high (byte_at c i) ≡ true → TextRun high c from (i + 1)
 unfolding text_good
-run_step {high} {c} {from} {i} r so more told yes_text =
-    let is : is_text high (byte_at c i) ≡ true = told_yes r _ told yes_text in
+run_step {high} {c} {from} {i} so more is =
     let low = so.low in
     record {
       low = omega arith;
@@ -86,35 +84,33 @@ text_inner high b is e =
     let z : ◌≡◌ {A = ℕ} 0 1 = cc in
     omega arith
 
-module _ {high : Bool} {d : List ℕ} {from i : ℕ} (r : Bool) (e : Ended d) (so : TextRun high (content_in d) from i) (fits : i + 1 ≤ length d) (told : r ≡ is_text high (byte_at d i))
-    (text : not r ≡ false) where
-  before : i < length d - 1
-  before = inner i (byte_at d i) e fits refl (text_inner high (byte_at d i) (told_yes r _ told text))
+text_before : {d : List ℕ} (level : Bool) (i : ℕ) → Ended d → i + 1 ≤ length d → is_text level (byte_at d i) ≡ true → i < length d - 1
+text_before {d} level i e fits text = inner i (byte_at d i) e fits refl (text_inner level (byte_at d i) text)
 
-  pub run_on : TextRun high (content_in d) from (i + 1)
-  run_on = run_step r so (rw (content_long e) before) (rw (content_byte d i before) told) text
-
-  pub run_fits : i + 1 + 1 ≤ length d
-  run_fits = let b = before in omega arith
-
--- the same of bytes 20 to 7E, which are text at every level
-plain_text : (high r : Bool) (b : ℕ) → r ≡ is_text false b → not r ≡ false → true ≡ is_text high b
+-- bytes 20 to 7E are text at every level
+plain_text : (high : Bool) (b : ℕ) → is_text false b ≡ true → is_text high b ≡ true
 unfolding is_text
-plain_text high r b told text =
-    let is : is_text false b ≡ true = told_yes r _ told text in
-    by (leb 32 b && leb b 126) (high && (leb 160 b && leb b 255)) is
+plain_text high b is = by (leb 32 b && leb b 126) (high && (leb 160 b && leb b 255)) is
   where
-    by : (x y : Bool) → (x || false) ≡ true → true ≡ (x || y)
+    by : (x y : Bool) → (x || false) ≡ true → (x || y) ≡ true
     by true y h = refl
     by false y h = absurd (let z : ◌≡◌ {A = ℕ} 0 1 = cc in omega arith)
 
-module _ {d : List ℕ} {from i : ℕ} (r : Bool) (e : Ended d) (so : (high : Bool) → TextRun high (content_in d) from i) (fits : i + 1 ≤ length d)
-    (told : r ≡ is_text false (byte_at d i)) (text : not r ≡ false) where
-  pub plain_on : (high : Bool) → TextRun high (content_in d) from (i + 1)
-  plain_on high = run_on true e (so high) fits (plain_text high r _ told text) refl
+-- what is text at a level is text at each level that lets as much pass
+level_text : (level high : Bool) (b : ℕ) → (level ≡ true → high ≡ true) → is_text level b ≡ true → is_text high b ≡ true
+level_text true high b up is = rw (up refl) is
+level_text false high b up is = plain_text high b is
 
-  pub plain_fits : i + 1 + 1 ≤ length d
-  plain_fits = run_fits r e (so false) fits told text
+module _ {d : List ℕ} {from i : ℕ} (level r : Bool) (e : Ended d) (so : (high : Bool) → (level ≡ true → high ≡ true) → TextRun high (content_in d) from i) (fits : i + 1 ≤ length d)
+    (told : r ≡ is_text level (byte_at d i)) (text : r ≡ true) where
+  pub level_on : (high : Bool) → (level ≡ true → high ≡ true) → TextRun high (content_in d) from (i + 1)
+  level_on high up =
+      let before = text_before level i e fits (sym told ∙ text) in
+      let is : is_text high (byte_at d i) ≡ true = level_text level high _ up (sym told ∙ text) in
+      run_step (so high up) (rw (content_long e) before) (rw (content_byte d i before) is)
+
+  pub level_fits : i + 1 + 1 ≤ length d
+  level_fits = let before = text_before level i e fits (sym told ∙ text) in omega arith
 
 -- ---- the entry that a text ends: its fixed bytes at `at`, its text from at + fixed up to the 1F at e
 module _ {high : Bool} {c : List ℕ} {from e : ℕ} (at : ℕ) (sh : Shape) (run : TextRun high c from e) (place : from ≡ at + sh.fixed) (one : sh.unit ≡ 1) (more : e < length c)

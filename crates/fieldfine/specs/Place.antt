@@ -1,5 +1,5 @@
 -- What is told of one field by its place and its content together. It serves the proofs, and nothing here need be believed. Assumes nothing.
-use Rattle.std.specs.Prelude.{ℕ, ◌≤◌, Bool, true, false, cond, ◌&&◌, List, ◌≡◌, length, get_or, leb, eqb}
+use Rattle.std.specs.Prelude.{ℕ, ◌≤◌, Bool, true, false, cond, ◌&&◌, List, ◌≡◌, length, get_or, leb, eqb, Ok}
 use Rattle.table.specs.Table.{kind_of}
 use Rattle.layout.specs.Layout.{placed, filled}
 use Rattle.fieldvalue.specs.Value.{is_attributes}
@@ -52,7 +52,7 @@ pub record PlainFine (update : Bool) (stage : ℕ) (marks : List ℕ) (prev tag 
   pub declared : get_or marks r 0 ≡ 1
   pub full : filled r c ≡ true
   pub other : is_attributes r ≡ false
-  pub judged : PlainJudged update r c 0
+  pub judged : PlainJudged update r c (Ok tt)
 
 pub record PlainField (update : Bool) (stage : ℕ) (marks : List ℕ) (prev tag : ℕ) (c : List ℕ) (r : ℕ) : Type 0 where
   pub told : (r ≡ 20 → ⊥) → PlainFine update stage marks prev tag c r
@@ -64,7 +64,7 @@ pub record FieldFine (update : Bool) (stage : ℕ) (marks : List ℕ) (aall nall
   pub stands : placed update stage prev r ≡ true
   pub declared : get_or marks r 0 ≡ 1
   pub full : filled r c ≡ true
-  pub judged : FieldJudged update aall nall r c (cond (eqb prev r) stamp fresh) before after 0
+  pub judged : FieldJudged update aall nall r c (cond (eqb prev r) stamp fresh) before after (Ok tt)
 
 pub record FieldTold (update : Bool) (stage : ℕ) (marks : List ℕ) (aall nall prev tag : ℕ) (c : List ℕ) (stamp fresh : ℕ) (before after : List ℕ) (r : ℕ) : Type 0 where
   pub told : (r ≡ 20 → ⊥) → FieldFine update stage marks aall nall prev tag c stamp fresh before after r

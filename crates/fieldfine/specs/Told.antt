@@ -1,5 +1,5 @@
 -- What is told of a field's content in one go, one way only: of "fine" alone. It serves the proofs, and nothing here need be believed. Assumes nothing.
-use Rattle.std.specs.Prelude.{ℕ, ◌-◌, ◌%◌, Bool, true, ◌&&◌, List, ◌≡◌, length, take, leb, eqb}
+use Rattle.std.specs.Prelude.{ℕ, ◌-◌, ◌%◌, Bool, true, ◌&&◌, List, ◌≡◌, length, take, leb, eqb, Ok}
 use Rattle.entries.specs.Entries.{whole_good}
 use Rattle.attributes.specs.Attributes.{attribute, pointer, ffpt_fault}
 use Rattle.attributes.specs.Judged.{AttributesJudged}
@@ -13,7 +13,7 @@ content_in d = take (length d - 1) d
 -- the field c of attributes is whole and without fault
 pub record AttributesTold (update high : Bool) (c : List ℕ) (stamp : ℕ) (before after : List ℕ) (r : Bool) : Type 0 where
   pub full : r ≡ true → whole_good attribute c ≡ true
-  pub judged : r ≡ true → AttributesJudged update high c stamp before after 0
+  pub judged : r ≡ true → AttributesJudged update high c stamp before after (Ok tt)
 
 -- the field c of FFPT is whole and without fault
 pub record PointersTold (c : List ℕ) (r : Bool) : Type 0 where
@@ -27,4 +27,4 @@ groups_good fixed n = leb 1 n && eqb (n % fixed) 0
 -- the content c of a field of kind k, no list of attributes, is filled and without fault
 pub record PlainTold (update : Bool) (k : ℕ) (c : List ℕ) (r : Bool) : Type 0 where
   pub full : r ≡ true → filled k c ≡ true
-  pub judged : r ≡ true → PlainJudged update k c 0
+  pub judged : r ≡ true → PlainJudged update k c (Ok tt)

@@ -29,7 +29,7 @@ fn rare_fine(c: &[u8], k: usize, update: bool) -> bool
     if !filled(c, k) {
         return false;
     }
-    plain_fault(c, k, update) == 0
+    plain_fault(c, k, update).is_ok()
 }
 
 // A field that no ordinary vector or feature has at this place: in a cell's general records, in an

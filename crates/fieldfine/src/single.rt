@@ -82,7 +82,7 @@ pub fn frid_field(c: &[u8], marks: &[u8], prev: usize, stage: usize, update: boo
     if 3 < stage {
         return START;
     }
-    if frid_fault(c, update) != 0 {
+    if frid_fault(c, update).is_err() {
         return START;
     }
     kinds::FRID

@@ -8,44 +8,31 @@ use headvalues::text::is_text;
 use octets::number::{get2, wide};
 use table::offsets;
 
-// The first byte from `from` on that isn't 20 to 7E: nearly all texts have no others.
-fn plain_run(d: &[u8], from: usize) -> usize
+// The first byte from `from` on that is no text, where without HIGH those from A0 on are none. All
+// bytes before it are text at each level that lets as much pass.
+fn level_run<const HIGH: bool>(d: &[u8], from: usize) -> usize
     requires { Ended d.now × (from + 1 ≤ length d.now) }
-    ensures { ((high : Bool) → TextRun high (content_in d.now) from result) × (result + 1 ≤ length d.now) }
+    ensures { ((high : Bool) → (HIGH ≡ true → high ≡ true) → TextRun high (content_in d.now) from result) × (result + 1 ≤ length d.now) }
 {
     let mut i = from;
-    loop {
-        if !is_text(d[i], false) {
-            return i;
-        }
+    // A while: the closing 1E ends it, so that no turn looks where d ends.
+    while is_text(d[i], HIGH) {
         i += 1;
     }
+    i
 }
 
-// The first byte from `from` on that is no text.
-fn high_run(d: &[u8], from: usize, high: bool) -> usize
-    requires { Ended d.now × (from + 1 ≤ length d.now) }
-    ensures { TextRun high (content_in d.now) from result × (result + 1 ≤ length d.now) }
-{
-    let mut i = from;
-    loop {
-        if !is_text(d[i], high) {
-            return i;
-        }
-        i += 1;
-    }
-}
-
-// The same, without a look at what is high until such a byte comes.
+// The first byte from `from` on that is no text. Nearly all texts have no byte from A0 on, so that
+// `high` is asked for only once such a byte comes.
 fn text_run(d: &[u8], from: usize, high: bool) -> usize
     requires { Ended d.now × (from + 1 ≤ length d.now) }
     ensures { TextRun high (content_in d.now) from result × (result + 1 ≤ length d.now) }
 {
-    let i = plain_run(d, from);
-    if d[i] < 160 {
+    let i = level_run::<false>(d, from);
+    if d[i] < 160 || !high {
         return i;
     }
-    high_run(d, from, high)
+    level_run::<true>(d, from)
 }
 
 // The length of the attribute at `at` whose value is 7F alone; 0 where none stands there. Only
@@ -91,6 +78,7 @@ pub fn attributes_fine(d: &[u8], update: bool, high: bool, table: &mut [u32], st
 {
     let stop = d.len() - 1;
     let mut at: usize = 0;
+    // A while: the step is the attribute's own length.
     while at < stop {
         let n = attribute_len(d, at, update, high);
         if n == 0 {
@@ -126,10 +114,7 @@ fn pointer_len(d: &[u8], at: usize) -> usize
         return 0;
     }
     let rind = wide(d[at + offsets::FFPT_RIND]);
-    if rind < 2 {
-        return 0;
-    }
-    if 3 < rind {
+    if rind < 2 || 3 < rind {
         return 0;
     }
     let end = comment_run(d, at + offsets::FFPT_COMT);
@@ -146,6 +131,7 @@ pub fn pointers_fine(d: &[u8]) -> bool
 {
     let stop = d.len() - 1;
     let mut at: usize = 0;
+    // A while: the step is the pointer's own length.
     while at < stop {
         let n = pointer_len(d, at);
         if n == 0 {

@@ -31,9 +31,9 @@ module _ (s : List ℕ) (from i : ℕ) (so : separator_at s from ≡ separator_a
   unfolding separator_at
   found_later more other = so ∙ in_on (length s - i) (length s - (i + 1)) s i (omega arith) other
 
-  pub found_none : length s ≤ i → i ≡ separator_at s from
+  pub found_none : length s ≤ i → {m : ℕ} → m ≡ i → m ≡ separator_at s from
   unfolding separator_at separator_in
-  found_none past = let z : length s - i ≡ 0 = omega arith in sym (rw z at so)
+  found_none past same = let z : length s - i ≡ 0 = omega arith in same ∙ sym (rw z at so)
 
 -- ---- where the separators stand
 in_after : (n : ℕ) (s : List ℕ) (i : ℕ) → i ≤ separator_in n s i

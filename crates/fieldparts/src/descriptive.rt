@@ -15,14 +15,12 @@ pub struct Parts {
 fn separator(field: &[u8], from: usize) -> usize
     ensures { (result ≡ separator_at field.now from) × ((from ≤ result) × (result ≤ from + (length field.now - from))) }
 {
-    let mut i = from;
-    while i < field.len() {
+    for i in from..field.len() {
         if field[i] == 31 {
             return i;
         }
-        i += 1;
     }
-    i
+    from.max(field.len())
 }
 
 // The parts of a whole field, its closing 1E included.
@@ -41,17 +39,7 @@ pub fn cut(field: &[u8]) -> Parts
 fn same(a: &[u8], b: &[u8]) -> bool
     ensures { result ≡ same_list a.now b.now }
 {
-    if a.len() != b.len() {
-        return false;
-    }
-    let mut i: usize = 0;
-    while i < a.len() {
-        if a[i] != b[i] {
-            return false;
-        }
-        i += 1;
-    }
-    true
+    a == b
 }
 
 // Whether the bytes of `s` from `from` to `to` are those of `t`.

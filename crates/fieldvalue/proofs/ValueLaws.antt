@@ -2,8 +2,8 @@
 use Prim.Native.Nat.{ℕ, suc, ◌+◌, ◌-◌, ◌*◌, ◌≤◌, ◌<◌}
 use mathlib.Core.Bool.{Bool, true, false, cond, or-false}
 use mathlib.Core.List.{List, []}
-use mathlib.Core.Logic.{⊎_elim, ◌⊎◌}
-use mathlib.Core.Path.{◌≡◌, refl, sym, ap, ◌∙◌}
+use mathlib.Core.Logic.{⊎_elim}
+use mathlib.Core.Path.{◌≡◌, refl, ap, ◌∙◌}
 use native.Mathlib.Nat.{sub-zero, mul-le-mul_left}
 use Rattle.iso8211.specs.Leader.{length_digits, position_digits}
 use Rattle.iso8211.specs.Directory.{row_width}
@@ -27,44 +27,48 @@ use Rattle.attributes.specs.Attributes.{attribute, pointer, ffpt_fault}
 use Rattle.attributes.specs.Premises.{Stamped, Upto}
 use Rattle.attributes.specs.Judged.{AttributesJudged}
 use Rattle.attributes.proofs.StampLaws.{stamp_fresh, upto_more}
-use Rattle.layout.specs.Layout.{filled, content_of, start}
+use Rattle.layout.specs.Layout.{filled, content_of}
 use Rattle.layout.proofs.Promise.{full_list}
 use Rattle.fieldvalue.specs.Value.{is_attributes, is_high, field_fault, seen_before, seen_after, values_from, value_fault}
+use Rattle.std.specs.Prelude.{Result, Ok, Err, IfErr}
+use Rattle.values.specs.declared.fault.Fault.{Fault}
+use Rattle.values.specs.Fault.{told}
+use Rattle.values.proofs.FaultLaws.{told_ok, told_none, told_some, place_ok, place_err, on_any}
 use Rattle.fieldvalue.specs.Judged.{PlainJudged, FieldJudged, Full, RecordJudged}
 
 -- ---- the fault of a field, by its kind
-module _ {update : Bool} {k : ℕ} {c : List ℕ} {r : ℕ} (most : r ≤ length c) where
-  pub plain_dsid : k ≡ DSID → r ≡ dsid_fault update c → PlainJudged update k c r
+module _ {update : Bool} {k : ℕ} {c : List ℕ} {r : Result Unit Fault} (most : IfErr r (λ f. f.at < length c)) where
+  pub plain_dsid : k ≡ DSID → r ≡ told (dsid_fault update c) → PlainJudged update k c r
   unfolding field_fault
   plain_dsid e f = record { fault = λ aall nall seen. rw e f; within = most }
 
-  pub plain_dssi : k ≡ DSSI → r ≡ dssi_fault update c → PlainJudged update k c r
+  pub plain_dssi : k ≡ DSSI → r ≡ told (dssi_fault update c) → PlainJudged update k c r
   unfolding field_fault
   plain_dssi e f = record { fault = λ aall nall seen. rw e f; within = most }
 
-  pub plain_dspm : k ≡ DSPM → r ≡ dspm_fault c → PlainJudged update k c r
+  pub plain_dspm : k ≡ DSPM → r ≡ told (dspm_fault c) → PlainJudged update k c r
   unfolding field_fault
   plain_dspm e f = record { fault = λ aall nall seen. rw e f; within = most }
 
-  pub plain_vrid : k ≡ VRID → r ≡ vrid_fault update c → PlainJudged update k c r
+  pub plain_vrid : k ≡ VRID → r ≡ told (vrid_fault update c) → PlainJudged update k c r
   unfolding field_fault
   plain_vrid e f = record { fault = λ aall nall seen. rw e f; within = most }
 
-  pub plain_frid : k ≡ FRID → r ≡ frid_fault update c → PlainJudged update k c r
+  pub plain_frid : k ≡ FRID → r ≡ told (frid_fault update c) → PlainJudged update k c r
   unfolding field_fault
   plain_frid e f = record { fault = λ aall nall seen. rw e f; within = most }
 
-  pub plain_ffpt : k ≡ FFPT → r ≡ ffpt_fault c → PlainJudged update k c r
+  pub plain_ffpt : k ≡ FFPT → r ≡ told (ffpt_fault c) → PlainJudged update k c r
   unfolding field_fault is_attributes
   plain_ffpt e f = record { fault = λ aall nall seen. rw e f; within = most }
 
 -- a kind without rules
 pub plain_none : {update : Bool} {k : ℕ} {c : List ℕ} → (k ≡ DSID → ⊥) → (k ≡ DSSI → ⊥) → (k ≡ DSPM → ⊥) → (k ≡ VRID → ⊥) → (k ≡ FRID → ⊥) → (k ≡ FFPT → ⊥)
-    → is_attributes k ≡ false → PlainJudged update k c 0
+    → is_attributes k ≡ false → PlainJudged update k c (Ok tt)
 unfolding field_fault
 plain_none {update} {k} {c} a b d e f g h = record {
-  fault = λ aall nall seen. rw (ne_eqb k DSID a, ne_eqb k DSSI b, ne_eqb k DSPM d, ne_eqb k VRID e, ne_eqb k FRID f, h, ne_eqb k FFPT g);
-  within = omega arith;
+  fault = λ aall nall seen. told_ok (rw (ne_eqb k DSID a, ne_eqb k DSSI b, ne_eqb k DSPM d, ne_eqb k VRID e, ne_eqb k FRID f, h, ne_eqb k FFPT g));
+  within = tt;
 }
 
 -- which kinds are lists of attributes
@@ -73,10 +77,11 @@ unfolding is_attributes
 attributes_none k a b d = rw (ne_eqb k ATTV a, ne_eqb k ATTF b, ne_eqb k NATF d)
 
 -- the table stays
-pub judged_plain : {update : Bool} {aall nall k : ℕ} {c : List ℕ} {stamp : ℕ} {t : List ℕ} {r : ℕ} → is_attributes k ≡ false → PlainJudged update k c r
+pub judged_plain : {update : Bool} {aall nall k : ℕ} {c : List ℕ} {stamp : ℕ} {t : List ℕ} {r : Result Unit Fault} → is_attributes k ≡ false → PlainJudged update k c r
     → FieldJudged update aall nall k c stamp t t r
 unfolding seen_after
-judged_plain {aall = aall} {nall = nall} none j = record { fault = λ seen s. j.fault aall nall seen; met = λ seen s z. rw none s; upto = λ u. u; within = j.within }
+judged_plain {aall = aall} {nall = nall} {r = r} none j =
+    record { fault = λ seen s. j.fault aall nall seen; met = λ seen s. on_any r (rw none s); upto = λ u. u; within = j.within }
 
 -- a list of attributes is whole, and so is a list of FFPT
 pub attv_whole : {k : ℕ} {c : List ℕ} → k ≡ ATTV → filled k c ≡ true → Whole attribute c
@@ -96,18 +101,18 @@ unfolding row_of table
 pointers_whole {k} {c} e h = (full_list FFPT c refl (rw e at h)).0
 
 -- at its level
-module _ {update : Bool} {aall nall k : ℕ} {c : List ℕ} {stamp : ℕ} {t u : List ℕ} {r : ℕ} where
+module _ {update : Bool} {aall nall k : ℕ} {c : List ℕ} {stamp : ℕ} {t u : List ℕ} {r : Result Unit Fault} where
   pub judged_attv : k ≡ ATTV → AttributesJudged update false c stamp t u r → FieldJudged update aall nall k c stamp t u r
   unfolding field_fault is_attributes is_high seen_after
-  judged_attv e j = rw e (record { fault = λ seen s. j.fault seen s; met = λ seen s z. j.met seen s z; upto = j.upto; within = j.within })
+  judged_attv e j = rw e (record { fault = λ seen s. j.fault seen s; met = λ seen s. j.met seen s; upto = j.upto; within = j.within })
 
   pub judged_attf : k ≡ ATTF → AttributesJudged update (eqb aall 1) c stamp t u r → FieldJudged update aall nall k c stamp t u r
   unfolding field_fault is_attributes is_high seen_after
-  judged_attf e j = rw e (record { fault = λ seen s. rw (or-false (eqb aall 1)) (j.fault seen s); met = λ seen s z. j.met seen s z; upto = j.upto; within = j.within })
+  judged_attf e j = rw e (record { fault = λ seen s. rw (or-false (eqb aall 1)) (j.fault seen s); met = λ seen s. j.met seen s; upto = j.upto; within = j.within })
 
   pub judged_natf : k ≡ NATF → AttributesJudged update (eqb nall 1) c stamp t u r → FieldJudged update aall nall k c stamp t u r
   unfolding field_fault is_attributes is_high seen_after
-  judged_natf e j = rw e (record { fault = λ seen s. j.fault seen s; met = λ seen s z. j.met seen s z; upto = j.upto; within = j.within })
+  judged_natf e j = rw e (record { fault = λ seen s. j.fault seen s; met = λ seen s. j.met seen s; upto = j.upto; within = j.within })
 
 -- ---- the walk over the fields
 -- a record has more bytes than fields
@@ -175,35 +180,38 @@ values_stop : (n m : ℕ) (update : Bool) (aall nall : ℕ) (s : List ℕ) (at j
 unfolding values_from
 values_stop n m update aall nall s at j prev seen k c e f g z = rw (e, ← f, ← g, ne_eqb _ _ z)
 
-module _ {update : Bool} {aall nall : ℕ} {s : List ℕ} {at : ℕ} {before t after : List ℕ} {j prev stamp new k r : ℕ} {c : List ℕ} (f : Field)
+module _ {update : Bool} {aall nall : ℕ} {s : List ℕ} {at : ℕ} {before t after : List ℕ} {j prev stamp new k : ℕ} {r : Result Unit Fault} {c : List ℕ} (f : Field)
     (w : Walked update aall nall s at before t j prev stamp) (more : j < count_at s at) (is : f ≡ field_at s at j) (kind : k ≡ kind_of f.tag) (small : k < kind_count)
     (content : c ≡ content_of s f)
     (stamped : new ≡ cond (eqb prev k) stamp (at + j + 1)) (judged : FieldJudged update aall nall k c new t after r) where
-  pub walked_on : r ≡ 0 → Walked update aall nall s at before after (j + 1) k new
+  pub walked_on : {v : Unit} → r ≡ Ok v → Walked update aall nall s at before after (j + 1) k new
   walked_on z = record {
     here = λ u.
         let n = w.here u in
         let st = next_stamped w k new small stamped u in
         record {
           seen = seen_after k (seen_before prev k n.seen) c;
-          stamped = λ h. judged.met _ st z;
+          stamped = λ h. rw z at (judged.met _ st);
           upto = judged.upto (next_upto w k new small stamped u);
           below = next_low w k new stamped u;
           answer = n.answer ∙ values_next (count_at s at - j) (count_at s at - (j + 1)) update aall nall s at j prev n.seen k c (omega arith)
               (kind ∙ ap (λ (x : Field). kind_of x.tag) is)
-              (content ∙ ap (λ (x : Field). content_of s x) is) (sym (judged.fault _ st) ∙ z);
+              (content ∙ ap (λ (x : Field). content_of s x) is) (told_none _ (judged.fault _ st) z);
         };
   }
 
-  pub walked_stop : FramedAt s at → (r ≡ 0 → ⊥) → f.start + (r - 1) ≤ length s → RecordJudged update aall nall s at before after (f.start + (r - 1))
-  walked_stop framed z most = record {
+  pub walked_stop : FramedAt s at → FieldIn s at (end_of s at) f → {x : Fault} → r ≡ Err x → f.start + x.at ≤ length s
+      → RecordJudged update aall nall s at before after (Err (record { at = f.start + x.at }))
+  walked_stop framed i z most = record {
     fault = λ u.
         let n = w.here u in
         let st = next_stamped w k new small stamped u in
-        let same = judged.fault _ st in
-        sym (n.answer ∙ values_stop (count_at s at - j) (count_at s at - (j + 1)) update aall nall s at j prev n.seen k c (omega arith)
+        let same = told_some _ (judged.fault _ st) z in
+        let low = framed.headed.low in
+        let behind = i.after in
+        place_err _ (n.answer ∙ values_stop (count_at s at - j) (count_at s at - (j + 1)) update aall nall s at j prev n.seen k c (omega arith)
         (kind ∙ ap (λ (x : Field). kind_of x.tag) is)
-        (content ∙ ap (λ (x : Field). content_of s x) is) (λ q. z (same ∙ q)) ∙ rw (← is, ← same));
+        (content ∙ ap (λ (x : Field). content_of s x) is) (λ q. omega arith) ∙ rw (← is, same) (omega arith)) (λ e. omega arith);
     upto = λ u. upto_more (judged.upto (next_upto w k new small stamped u))
         (let low = next_low w k new stamped u in let high = count_few s at framed in omega arith);
     within = most;
@@ -211,12 +219,12 @@ module _ {update : Bool} {aall nall : ℕ} {s : List ℕ} {at : ℕ} {before t a
 
 pub walked_end : {update : Bool} {aall nall : ℕ} {s : List ℕ} {at : ℕ} {before t : List ℕ} {j prev stamp : ℕ} → Walked update aall nall s at before t j prev stamp → FramedAt s at
     → count_at s at ≤ j → j ≤ count_at s at
-    → RecordJudged update aall nall s at before t 0
+    → RecordJudged update aall nall s at before t (Ok tt)
 unfolding values_from
 walked_end {update} {aall} {nall} {s} {at} {before} {t} {j} {prev} {stamp} w framed low high = record {
-  fault = λ u. let n = w.here u in let z : count_at s at - j ≡ 0 = omega arith in sym (n.answer ∙ rw z);
+  fault = λ u. let n = w.here u in let z : count_at s at - j ≡ 0 = omega arith in place_ok (n.answer ∙ rw z);
   upto = λ u. let n = w.here u in let b = n.below in let few = count_few s at framed in upto_more n.upto (omega arith);
-  within = omega arith;
+  within = tt;
 }
 
 -- ---- a field of a record that is laid out

@@ -7,5 +7,5 @@ pub mod value;
 // The fault of a field that is no list of attributes.
 pub use value::plain_fault;
 
-// Where the first wrong subfield of the record at `at` starts; 0 where its values are good.
+// Where the first wrong subfield of the record at `at` starts in the file.
 pub use value::value_fault;

@@ -9,15 +9,15 @@ use attributes::{attributes_fault, ffpt_fault};
 use dataset::dsid_fault;
 use headvalues::dspm::dspm_fault;
 use headvalues::dssi::dssi_fault;
-use iso8211::field::{field_on, head_of};
+use iso8211::field::{Record, head_of};
 use layout::place::START;
 use table::{kind_of, kinds};
+use values::fault::Fault;
 use values::frid::frid_fault;
 use values::vrid::vrid_fault;
 
-// The fault of a field of kind k that is no list of attributes, its content c: 0, or 1 and the place
-// of its first wrong subfield.
-pub fn plain_fault(c: &[u8], k: usize, update: bool) -> usize
+// The fault of a field of kind k that is no list of attributes, its content c.
+pub fn plain_fault(c: &[u8], k: usize, update: bool) -> Result<(), Fault>
     requires { (filled k c.now ≡ true) × (is_attributes k ≡ false) }
     ensures { PlainJudged update k c.now result }
 {
@@ -28,7 +28,7 @@ pub fn plain_fault(c: &[u8], k: usize, update: bool) -> usize
         kinds::VRID => vrid_fault(c, update),
         kinds::FRID => frid_fault(c, update),
         kinds::FFPT => ffpt_fault(c),
-        _ => 0,
+        _ => Ok(()),
     }
 }
 
@@ -41,7 +41,7 @@ fn field_fault(
     nall: u32,
     table: &mut [u32],
     stamp: u32,
-) -> usize
+) -> Result<(), Fault>
     requires { (filled k c.now ≡ true) × (length table.old ≡ 65536) }
     ensures { FieldJudged update aall nall k c.now stamp table.old table.new result }
 {
@@ -64,8 +64,8 @@ fn stamp_of(on: bool, stamp: u32, fresh: u32) -> u32
     if on { stamp } else { fresh }
 }
 
-// Where the first wrong subfield of the record at `at` starts; 0 where its values are good. A list
-// of attributes that begins at field j has the stamp at + j + 1, which no list before it had.
+// Where the first wrong subfield of the record at `at` starts in the file. A list of attributes that
+// begins at field j has the stamp at + j + 1, which no list before it had.
 pub fn value_fault(
     s: &[u8],
     at: usize,
@@ -73,29 +73,30 @@ pub fn value_fault(
     aall: u32,
     nall: u32,
     table: &mut [u32],
-) -> usize
+) -> Result<(), Fault>
     requires { Full s.now at × ((length s.now ≤ most_bytes) × (length table.old ≡ 65536)) }
     ensures { RecordJudged update aall nall s.now at table.old table.new result }
 {
     let head = head_of(s, at);
+    let record = Record { file: s, at, head };
     let count = head.count;
     let mut prev: usize = START;
     let mut stamp = at as u32;
     let mut due = at + head.base;
-    let mut j: usize = 0;
-    while j < count {
-        let f = field_on(s, at, head, j, due);
+    for j in 0..count {
+        let f = record.field_on(j, due);
         let k = kind_of(f.tag);
         stamp = stamp_of(prev == k, stamp, (at + j + 1) as u32);
         let from = f.start;
         let to = from + (f.length - 1);
-        let fault = field_fault(&s[from..to], k, update, aall, nall, table, stamp);
-        if fault != 0 {
-            return from + (fault - 1);
+        let judged = field_fault(&s[from..to], k, update, aall, nall, table, stamp);
+        if let Err(fault) = judged {
+            return Err(Fault {
+                at: from + fault.at,
+            });
         }
         prev = k;
         due = from + f.length;
-        j += 1;
     }
-    0
+    Ok(())
 }

@@ -1,22 +1,25 @@
 -- Laws of format lists. Assumes nothing.
 use Prim.Native.Nat.{ℕ, zero, suc, ◌+◌, ◌-◌, ◌*◌, ◌^◌, ◌≤◌, ◌<◌}
-use mathlib.Core.Bool.{Bool, true, false, not, cond, ◌&&◌}
+use mathlib.Core.Bool.{Bool, true, false, cond, ◌&&◌}
 use mathlib.Core.List.{List, [], ◌∷◌, ◌++◌, append_assoc, append-nil}
 use mathlib.Core.Logic.{◌⊎◌, ⊎_elim}
 use mathlib.Core.Path.{◌≡◌, refl, sym, ap, ◌∙◌}
 use native.Mathlib.Nat.{add-zero, sub-zero, add_assoc, pow-suc, pow-le-pow_right, mul-le-mul_right, suc-mul}
 use native.Mathlib.Numerals.{add-one}
 use native.Mathlib.Omega.{arith}
-use lib.ListN.{length, take, drop, get_or, set, replicate, length-set, get_or-eq_default}
-use lib.Seq.{take-suc, take-suc-set, drop-set-lt, drop-drop, length-take-le, take_all, get_or-take}
+use lib.ListN.{length, take, drop, set, replicate, length-drop, get_or-eq_default}
+use Rattle.std.proofs.lemmas.List.{drop-replicate}
+use Rattle.std.proofs.lemmas.Slice.{take-put_mid, drop-put_mid}
+use borrow.Rule.Slice.PartMut.{put_mid, same_len_mid}
+use lib.Seq.{drop-drop, length-take-le}
 use lib.Dec.{eqb, leb}
+use lib.Pointwise.{pointwise}
 use borrow.Author.Tests.{eq-eqb, ne_eqb, lt-ltb, le-ltb, lt-leb, le-leb}
 use Rattle.octets.specs.Number.{byte_at}
 use Rattle.octets.specs.Digits.{is_digit}
-use Rattle.octets.proofs.Tests.{told_no, told_yes}
 use Rattle.octets.proofs.Cases.{le_or_lt}
 use Rattle.fieldparts.specs.Same.{same_list}
-use Rattle.fieldparts.proofs.SameLaws.{same_unlike, turn_other, turn_alike, same_end}
+use Rattle.fieldparts.proofs.SameLaws.{same_pointwise}
 use Rattle.formats.specs.declared.Taken.{Taken}
 use Rattle.formats.specs.declared.Formats.{Formats}
 use Rattle.formats.specs.Formats.{digit_at, taken, short_from, short_at, count_at, is_letter, closed, sized_at, counts, binary_at, primitive_at, Form, form, broken, single}
@@ -27,13 +30,11 @@ use Rattle.formats.specs.Premises.{Seen, Digit, Short, Primitive, forms_of, noth
 pub seen_past : (s : List ℕ) (i : ℕ) → length s ≤ i → Seen s i 0
 seen_past s i past = record { is = sym (get_or-eq_default s 0 {n = i} past); small = omega arith; inside = omega arith }
 
-pub digit_low : {s : List ℕ} {i b : ℕ} → Seen s i b → b < 48 → Digit s i 10
+pub digit_none : {s : List ℕ} {i b : ℕ} → Seen s i b → ((48 ≤ b) × (57 < b)) ⊎ (b < 48) → Digit s i 10
 unfolding digit_at is_digit
-digit_low {s} {i} {b} seen h = record { is = rw (← seen.is, lt-leb 48 b h); small = omega arith; inside = omega arith }
-
-pub digit_high : {s : List ℕ} {i b : ℕ} → Seen s i b → 57 < b → Digit s i 10
-unfolding digit_at is_digit
-digit_high {s} {i} {b} seen h = record { is = rw (← seen.is, le-leb 48 b (omega arith), lt-leb b 57 h); small = omega arith; inside = omega arith }
+digit_none {s} {i} {b} seen h =
+    let no : is_digit b ≡ false = ⊎_elim (λ (g : (48 ≤ b) × (57 < b)). rw (le-leb 48 b g.0, lt-leb b 57 g.1)) (λ (l : b < 48). rw (lt-leb 48 b l)) h in
+    record { is = rw (← seen.is, no); small = omega arith; inside = omega arith }
 
 pub digit_some : {s : List ℕ} {i b : ℕ} → Seen s i b → 48 ≤ b → b ≤ 57 → Digit s i (b - 48)
 unfolding digit_at is_digit
@@ -126,21 +127,20 @@ counts_most d h =
     (λ (l : 9 < d). absurd (let z : ◌≡◌ {A = ℕ} 0 1 = let no : (leb 1 d && leb d 9) ≡ false = rw (le-leb 1 d (omega arith), lt-leb d 9 l) in cc in omega arith)) (le_or_lt d 9)
 
 module _ {s : List ℕ} (at : ℕ) {t o : ℕ} {a : Bool} (tens : Digit s (at + 1) t) (ones : Digit s (at + 2) o) (first : a ≡ counts t) where
-  pub binary_tens : not a ≡ true → Primitive (binary_at s at) s (taken 0 0)
+  pub binary_tens : a ≡ false → Primitive (binary_at s at) s (taken 0 0)
   unfolding binary_at
-  binary_tens h = record { is = rw (← tens.is, told_no a (counts t) first h); within = omega arith }
+  binary_tens h = record { is = rw (← tens.is, sym first ∙ h); within = omega arith }
 
-  pub binary_ones : {b : Bool} → not a ≡ false → b ≡ counts o → not b ≡ true → Primitive (binary_at s at) s (taken 0 0)
+  pub binary_ones : {b : Bool} → a ≡ true → b ≡ counts o → b ≡ false → Primitive (binary_at s at) s (taken 0 0)
   unfolding binary_at
-  binary_ones {b} h second k =
-      record { is = rw (← tens.is, ← ones.is, told_yes a (counts t) first h, told_no b (counts o) second k); within = omega arith }
+  binary_ones {b} h second k = record { is = rw (← tens.is, ← ones.is, sym first ∙ h, sym second ∙ k); within = omega arith }
 
-  pub binary_both : {b : Bool} → not a ≡ false → b ≡ counts o → not b ≡ false → Primitive (binary_at s at) s (taken (98 + 256 * (t * 10 + o)) (at + 3))
+  pub binary_both : {b : Bool} → a ≡ true → b ≡ counts o → b ≡ true → Primitive (binary_at s at) s (taken (98 + 256 * (t * 10 + o)) (at + 3))
   unfolding binary_at
   binary_both {b} h second k =
-      let top = counts_most o (told_yes b (counts o) second k) in
+      let top = counts_most o (sym second ∙ k) in
       let z = ones.inside in
-      record { is = rw (← tens.is, ← ones.is, told_yes a (counts t) first h, told_yes b (counts o) second k); within = omega arith }
+      record { is = rw (← tens.is, ← ones.is, sym first ∙ h, sym second ∙ k); within = omega arith }
 
 -- ---- primitive
 pub letter_some : (b : ℕ) (r : Bool) → r ≡ is_letter b → r ≡ true → 0 < b
@@ -184,44 +184,34 @@ module _ {s : List ℕ} (at : ℕ) {p : Taken} (told : Primitive (primitive_at s
       rw (← told.is, ne_eqb p.value 0 h)
       (record { is = refl; fills = record { wide = refl; few = omega arith; rest = refl }; within = told.within })
 
--- ---- add: of the places, those up to `from` are led, and i behind them are of `more`
-pub record Adding (led more : List ℕ) (from i : ℕ) (items : List ℕ) : Type 0 where
-  pub wide : length items ≡ 32
-  pub front : take (from + i) items ≡ take from led ++ take i more
-  pub rest : drop (from + i) items ≡ replicate (32 - (from + i)) 0
+-- ---- add: the part stands behind what is led, and all behind it is as it was
+put_long : (a k : ℕ) (xs ys : List ℕ) → a + k ≤ length xs → length ys ≡ k → length (put_mid a k xs ys) ≡ length xs
+put_long a k xs ys fit e = same_len_mid a k xs ys (e ∙ sym (length-take-le k (drop a xs) (rw length-drop (omega arith))))
 
-pub adding_start : {led : Formats} (more : List ℕ) → Filled led → Adding led.items more led.count 0 led.items
-adding_start {led} more fills =
-    record {
-      wide = fills.wide;
-      front = rw (add-zero led.count) (sym (append-nil (take led.count led.items)));
-      rest = rw (add-zero led.count) fills.rest;
-    }
+module _ {led part : Formats} (one : Filled led) (two : Filled part) (room : led.count + part.count ≤ 32) (ys : List ℕ) (same : ys ≡ take part.count part.items) where
+  abbrev items : List ℕ
+  items = put_mid led.count (led.count + part.count - led.count) led.items ys
 
-rest_next : (items : List ℕ) (j : ℕ) → length items ≡ 32 → j < 32 → drop j items ≡ replicate (32 - j) 0 → drop (j + 1) items ≡ replicate (32 - (j + 1)) 0
-rest_next items j wide more h =
-    let e : 32 - j ≡ suc (32 - (j + 1)) = omega arith in
-    sym (drop-drop 1 j items) ∙ rw h (rw e)
+  few : led.count ≤ length led.items
+  few = let wide = one.wide in omega arith
 
-pub adding_next : {led more items : List ℕ} (from i n : ℕ) → Adding led more from i items → i < n → from + n ≤ 32 → length more ≡ 32
-    → Adding led more from (i + 1) (set items (from + i) (get_or more i 0))
-adding_next {led} {more} {items} from i n so h room long =
-    let wide = so.wide in
-    record {
-      wide = length-set items (from + i) (get_or more i 0) ∙ wide;
-      front =
-          rw (← add_assoc from i 1, add-one (from + i), take-suc-set items (from + i) (get_or more i 0) (omega arith), so.front, add-one i, take-suc more i 0 (omega arith))
-          (append_assoc (take from led) (take i more) (get_or more i 0 ∷ []));
-      rest =
-          rw (← add_assoc from i 1) (drop-set-lt (from + i + 1) items (from + i) (get_or more i 0) (omega arith) ∙ rest_next items (from + i) wide (omega arith) so.rest);
-    }
+  long : length ys ≡ led.count + part.count - led.count
+  long = let l = items_long two in omega (arith, ap length same)
 
-pub adding_all : {led more items : List ℕ} (from i n end : ℕ) → Adding led more from i items → n ≤ i → i ≤ n → from + n ≤ 32
-    → Written (form (take from led ++ take n more) end) end (record { items = items; count = from + n; end = end })
-adding_all {led} {more} {items} from i n end so l h room =
-    let e : i ≡ n = omega arith in
-    let done : Adding led more from n items = rw e at so in
-    record { is = rw done.front; fills = record { wide = done.wide; few = room; rest = done.rest }; within = omega arith }
+  added_front : take (led.count + part.count) items ≡ take led.count led.items ++ take part.count part.items
+  added_front = take-put_mid led.count (led.count + part.count - led.count) led.items ys (led.count + part.count) (let l = long in omega arith) few ∙ rw same
+
+  added_rest : drop (led.count + part.count) items ≡ replicate (32 - (led.count + part.count)) 0
+  added_rest =
+      let left : 32 - led.count - part.count ≡ 32 - (led.count + part.count) = omega arith in
+      let past = drop-put_mid led.count (led.count + part.count - led.count) led.items ys (led.count + part.count) (omega arith) few long in
+      rw (past, ← drop-drop part.count led.count led.items, one.rest, drop-replicate {X = ℕ} part.count (32 - led.count) 0, left)
+
+  added_wide : length items ≡ 32
+  added_wide = put_long led.count (led.count + part.count - led.count) led.items ys (let wide = one.wide in omega arith) long ∙ one.wide
+
+  pub added : (end : ℕ) → Written (form (take led.count led.items ++ take part.count part.items) end) end (record { items = items; count = led.count + part.count; end = end })
+  added end = record { is = rw added_front; fills = record { wide = added_wide; few = room; rest = added_rest }; within = omega arith }
 
 -- ---- repeat
 pub repeat_room : (from k times n : ℕ) → k < times → from + times * n ≤ 32 → from + k * n + n ≤ 32
@@ -393,41 +383,10 @@ module _ {s : List ℕ} {at levels from turn : ℕ} {led inner part next : Forma
         record { within = omega arith; fills = join.fills; so = turned ∙ rw (ne_eqb next.end 0 some, ← mark.is, ne_eqb m 41 h, eq-eqb m 44 k) }
 
 -- ---- same_formats
-pub used_few : (f : Formats) → length f.items ≡ 32 → f.count < 32 → f.count ≡ length (take f.count f.items)
-used_few f wide h = sym (length-take-le f.count f.items (omega arith))
-
-pub used_all : (f : Formats) → length f.items ≡ 32 → 32 ≤ f.count → 32 ≡ length (take f.count f.items)
-used_all f wide h = rw (take_all f.count f.items (omega arith)) (sym wide)
-
 take_used : (k : ℕ) (xs : List ℕ) → take (length (take k xs)) xs ≡ take k xs
 take_used zero xs = refl
 take_used (suc k) [] = refl
 take_used (suc k) (x ∷ xs) = ap (λ (l : List ℕ). x ∷ l) (take_used k xs)
 
-used_same : (k n : ℕ) (xs : List ℕ) → n ≡ length (take k xs) → take n xs ≡ take k xs
-used_same k n xs e = rw e (take_used k xs)
-
-used_long : (k n : ℕ) (xs : List ℕ) → n ≡ length (take k xs) → length (take n xs) ≡ n
-used_long k n xs e = rw (used_same k n xs e) (sym e)
-
-module _ (xs ys : List ℕ) (k m n o : ℕ) (first : n ≡ length (take k xs)) (second : o ≡ length (take m ys)) where
-  pub formats_unlike : (n ≡ o → ⊥) → false ≡ same_list (take k xs) (take m ys)
-  formats_unlike h = same_unlike (take k xs) (take m ys) (λ (e : length (take k xs) ≡ length (take m ys)). h (first ∙ e ∙ sym second))
-
-  module _ (alike : n ≡ o) (i : ℕ) (so : same_list (take n xs) (take n ys) ≡ same_list (drop i (take n xs)) (drop i (take n ys))) where
-    whole : same_list (take n xs) (take n ys) ≡ same_list (take k xs) (take m ys)
-    whole = rw (used_same k n xs first, used_same m n ys (alike ∙ second))
-
-    long : length (take n xs) ≡ length (take n ys)
-    long = used_long k n xs first ∙ sym (used_long m n ys (alike ∙ second))
-
-    pub formats_other : i < n → (get_or xs i 0 ≡ get_or ys i 0 → ⊥) → false ≡ same_list (take k xs) (take m ys)
-    formats_other more h =
-        turn_other (take n xs) (take n ys) i (rw (used_long k n xs first) more) long so (rw (get_or-take n xs i 0 more, get_or-take n ys i 0 more) h) ∙ whole
-
-    pub formats_alike : i < n → get_or xs i 0 ≡ get_or ys i 0 → same_list (take n xs) (take n ys) ≡ same_list (drop (i + 1) (take n xs)) (drop (i + 1) (take n ys))
-    formats_alike more h =
-        turn_alike (take n xs) (take n ys) i (rw (used_long k n xs first) more) long so (rw (get_or-take n xs i 0 more, get_or-take n ys i 0 more) h)
-
-    pub formats_end : n ≤ i → true ≡ same_list (take k xs) (take m ys)
-    formats_end past = same_end (take n xs) (take n ys) i (rw (used_long k n xs first) past) long so ∙ whole
+pub formats_same : (xs ys : List ℕ) (k m n o : ℕ) → n ≡ length (take k xs) → o ≡ length (take m ys) → pointwise eqb (take n xs) (take o ys) ≡ same_list (take k xs) (take m ys)
+formats_same xs ys k m n o first second = rw (first, second, take_used k xs, take_used m ys) (same_pointwise (take k xs) (take m ys))

@@ -29,10 +29,7 @@ pub struct Formats {
 fn byte(s: &[u8], at: usize) -> u32
     ensures { Seen s.now at result }
 {
-    if at < s.len() {
-        return wide(s[at]);
-    }
-    0
+    if at < s.len() { wide(s[at]) } else { 0 }
 }
 
 // The digit at `at`, 10 where there is none.
@@ -40,13 +37,7 @@ fn digit(s: &[u8], at: usize) -> u32
     ensures { Digit s.now at result }
 {
     let b = byte(s, at);
-    if b < 48 {
-        return 10;
-    }
-    if 57 < b {
-        return 10;
-    }
-    b - 48
+    if 48 <= b && b <= 57 { b - 48 } else { 10 }
 }
 
 // A number of one to three digits, the first not 0.
@@ -58,8 +49,7 @@ fn short(s: &[u8], at: usize) -> Taken
         return Taken { value: 0, next: at };
     }
     let mut led: u32 = 0;
-    let mut n: usize = 0;
-    while n < 3 {
+    for n in 0..3 {
         let d = digit(s, at + n);
         if 9 < d {
             return Taken {
@@ -68,7 +58,6 @@ fn short(s: &[u8], at: usize) -> Taken
             };
         }
         led = led * 10 + d;
-        n += 1;
     }
     Taken {
         value: led,
@@ -82,24 +71,16 @@ fn count(s: &[u8], at: usize) -> Taken
     ensures { Short (count_at s.now at) s.now at result }
 {
     if 9 < digit(s, at) {
-        return Taken { value: 1, next: at };
+        Taken { value: 1, next: at }
+    } else {
+        short(s, at)
     }
-    short(s, at)
 }
 
 fn is_letter(b: u32) -> bool
     ensures { result ≡ is_letter b }
 {
-    if b == 65 {
-        return true;
-    }
-    if b == 73 {
-        return true;
-    }
-    if b == 82 {
-        return true;
-    }
-    b == 66
+    matches!(b, 65 | 73 | 82 | 66)
 }
 
 // The primitive of a letter, with a bracketed size or without.
@@ -116,10 +97,7 @@ fn sized(s: &[u8], at: usize) -> Taken
     }
     let size = short(s, at + 2);
     let end = size.next;
-    if size.value < 1 {
-        return Taken { value: 0, next: 0 };
-    }
-    if byte(s, end) != 41 {
+    if size.value < 1 || byte(s, end) != 41 {
         return Taken { value: 0, next: 0 };
     }
     Taken {
@@ -131,10 +109,7 @@ fn sized(s: &[u8], at: usize) -> Taken
 fn counting(d: u32) -> bool
     ensures { result ≡ counts d }
 {
-    if d < 1 {
-        return false;
-    }
-    d <= 9
+    1 <= d && d <= 9
 }
 
 // The primitive of b and two digits.
@@ -144,10 +119,7 @@ fn binary(s: &[u8], at: usize) -> Taken
 {
     let tens = digit(s, at + 1);
     let ones = digit(s, at + 2);
-    if !counting(tens) {
-        return Taken { value: 0, next: 0 };
-    }
-    if !counting(ones) {
+    if !counting(tens) || !counting(ones) {
         return Taken { value: 0, next: 0 };
     }
     Taken {
@@ -203,16 +175,11 @@ fn add(led: Formats, part: Formats) -> Formats
 {
     let mut items = led.items;
     let from = led.count;
-    let n = part.count;
-    let more = part.items;
-    let mut i: usize = 0;
-    while i < n {
-        items[from + i] = more[i];
-        i += 1;
-    }
+    let count = from + part.count;
+    items[from..count].copy_from_slice(&part.items[..part.count]);
     Formats {
         items,
-        count: from + n,
+        count,
         end: part.end,
     }
 }
@@ -223,16 +190,12 @@ fn repeat(led: Formats, times: usize, part: Formats) -> Formats
     ensures { Written (form (take led.count led.items ++ repeated times (take part.count part.items)) part.end) part.end result }
 {
     let mut all = led;
-    let mut k: usize = 0;
-    while k < times {
+    for _ in 0..times {
         all = add(all, part);
-        k += 1;
     }
-    let items = all.items;
     Formats {
-        items,
-        count: all.count,
         end: part.end,
+        ..all
     }
 }
 
@@ -244,10 +207,7 @@ fn join(led: Formats, times: u32, part: Formats) -> Formats
     if part.end == 0 {
         return none();
     }
-    if times < 1 {
-        return none();
-    }
-    if 99 < times {
+    if times < 1 || 99 < times {
         return none();
     }
     let k = times as usize;
@@ -263,9 +223,10 @@ fn item(s: &[u8], at: usize, inner: Formats) -> Formats
     ensures { Written (item_at (forms_of inner) s.now at) (length s.now) result }
 {
     if byte(s, at) == 40 {
-        return inner;
+        inner
+    } else {
+        alone(s, at)
     }
-    alone(s, at)
 }
 
 // The list that starts at `at`, with so many levels of brackets left. Each item has a primitive of
@@ -281,8 +242,7 @@ fn list(s: &[u8], at: usize, levels: usize) -> Formats
     }
     let mut led = none();
     let mut from = at + 1;
-    let mut turn: usize = 0;
-    while turn < 32 {
+    for _ in 0..32usize {
         let times = count(s, from);
         let start = times.next;
         // Where no bracket opens, this answers at once that there is no list: the item is a primitive.
@@ -295,18 +255,15 @@ fn list(s: &[u8], at: usize, levels: usize) -> Formats
         }
         let mark = byte(s, end);
         if mark == 41 {
-            let items = led.items;
             return Formats {
-                items,
-                count: led.count,
                 end: end + 1,
+                ..led
             };
         }
         if mark != 44 {
             return none();
         }
         from = end + 1;
-        turn += 1;
     }
     none()
 }
@@ -322,28 +279,12 @@ pub fn write_out(s: &[u8], at: usize) -> Formats
 fn used(f: Formats) -> usize
     ensures { (result ≡ length (forms_of f).items) × (result ≤ 32) }
 {
-    if f.count < 32 {
-        return f.count;
-    }
-    32
+    f.count.min(32)
 }
 
 // Whether two lists have the same primitives, wherever they ended.
 pub fn same_formats(a: Formats, b: Formats) -> bool
     ensures { result ≡ same_list (forms_of a).items (forms_of b).items }
 {
-    let n = used(a);
-    if n != used(b) {
-        return false;
-    }
-    let xs = a.items;
-    let ys = b.items;
-    let mut i: usize = 0;
-    while i < n {
-        if xs[i] != ys[i] {
-            return false;
-        }
-        i += 1;
-    }
-    true
+    a.items[..used(a)] == b.items[..used(b)]
 }

@@ -4,13 +4,11 @@
 // `too long`. It takes records and fields from `iso8211`.
 #![tactic(auto)]
 
-ghost use Rattle.std.specs.Prelude.{◌≤◌, ◌≡◌};
+ghost use Rattle.std.specs.Prelude.{◌≤◌, ◌≡◌, Ok};
 ghost use Rattle.iso8211.specs.Premises.{FramedAt};
 ghost use Rattle.iso8211.specs.File.{frame_of};
-ghost use Rattle.iso8211.specs.declared.file.Framed.TheVariants.{Records};
 
-use iso8211::Framed;
-use iso8211::field::{field_at, head_of, record_end};
+use iso8211::field::{Record, head_of, record_end};
 use iso8211::file::frame;
 
 mod text;
@@ -27,29 +25,26 @@ fn put_record(file: &[u8], at: usize, k: usize, out: &mut [u8; 4096], used: usiz
 {
     let end = record_end(file, at);
     let head = head_of(file, at);
+    let record = Record { file, at, head };
     let count = head.count;
     let mut next = text::put_start(out, used, k, at, end - at);
-    let mut j: usize = 0;
-    while j < count {
-        let field = field_at(file, at, head, j);
+    for j in 0..count {
+        let field = record.field(j);
         next = text::put_field(out, next, field.tag, field.length);
-        j += 1;
     }
     text::put_byte(out, next, b'\n')
 }
 
 // The lines of the n records of a framed file.
 fn write_records(file: &[u8], n: usize)
-    requires { frame_of file.now ≡ Records n }
+    requires { frame_of file.now ≡ Ok n }
 {
     let mut out = [0u8; 4096];
     let mut used: usize = 0;
     let mut at: usize = 0;
-    let mut k: usize = 0;
-    while k < n {
+    for k in 0..n {
         used = put_record(file, at, k, &mut out, used);
         at = record_end(file, at);
-        k += 1;
     }
     text::flush(&out, used);
 }
@@ -66,10 +61,9 @@ fn list(file: &[u8]) {
         io::write_all(STDOUT, b"too long\n");
         return;
     }
-    let framed = frame(file);
-    match framed {
-        Framed::Records(n) => write_records(file, n),
-        Framed::Broken(k) => write_broken(k),
+    match frame(file) {
+        Ok(n) => write_records(file, n),
+        Err(k) => write_broken(k),
     }
 }
 

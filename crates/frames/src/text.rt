@@ -30,10 +30,8 @@ fn put_bytes(out: &mut [u8; 4096], used: usize, bytes: &[u8]) -> usize
     ensures { result ≤ 4096 }
 {
     let mut next = used;
-    let mut k: usize = 0;
-    while k < bytes.len() {
-        next = put_byte(out, next, bytes[k]);
-        k += 1;
+    for b in bytes {
+        next = put_byte(out, next, *b);
     }
     next
 }

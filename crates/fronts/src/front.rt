@@ -13,7 +13,7 @@ ghost use Rattle.fronts.specs.Front.{dsid_fields, dspm_fields, dsid_in, revised_
 use counted::counts::Tally;
 use header::dsid::{dsid_size, put_dsid, put_revised, revised_size};
 use header::dssi::put_dssi;
-use iso8211::field::{Field, field_at, head_of};
+use iso8211::field::{Field, Record, head_of};
 use layout::general::levels_at;
 use octets::area::copy;
 use octets::number::{put1, put2};
@@ -25,7 +25,12 @@ fn field_in(s: &[u8], at: usize, j: usize) -> Field
     requires { RecordIn s.now at × (j < count_at s.now at) }
     ensures { FieldThere s.now at j result }
 {
-    field_at(s, at, head_of(s, at), j)
+    Record {
+        file: s,
+        at,
+        head: head_of(s, at),
+    }
+    .field(j)
 }
 
 // The bytes of field j of the record at `at`, without its 1E.

@@ -1,5 +1,5 @@
 -- What the crates above get from a fault: where it stands, and, where there is none, the facts of numbers that the field's values give. Assumes nothing.
-use Prim.Native.Nat.{ℕ, ◌-◌, ◌≤◌}
+use Prim.Native.Nat.{ℕ, ◌≤◌}
 use mathlib.Core.Bool.{Bool, true, cond}
 use mathlib.Core.List.{List}
 use mathlib.Core.Path.{◌≡◌}

@@ -60,9 +60,9 @@ text_done high s i so h = sym (so ∙ rw (drop_of_length-le s {i = i} h))
 
 -- ---- text_end: one law for each way through a turn
 module _ (s : List ℕ) (from i : ℕ) (so : text_end s from ≡ text_end s i) where
-  pub end_past : length s ≤ i → i ≡ text_end s from
+  pub end_past : length s ≤ i → {m : ℕ} → m ≡ i → m ≡ text_end s from
   unfolding text_end until_end
-  end_past h = sym (so ∙ rw (drop_of_length-le s {i = i} h) (add-zero i))
+  end_past h same = same ∙ sym (so ∙ rw (drop_of_length-le s {i = i} h) (add-zero i))
 
   pub end_here : i < length s → byte_at s i ≡ 31 → i ≡ text_end s from
   unfolding text_end until_end

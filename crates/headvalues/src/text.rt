@@ -6,28 +6,21 @@ ghost use Rattle.headvalues.specs.Text.{is_text, text_good, text_end};
 pub fn is_text(b: u8, high: bool) -> bool
     ensures { result ≡ is_text high b }
 {
-    if b < 32 {
-        return false;
+    match b {
+        0x20..=0x7E => true,
+        0xA0..=0xFF => high,
+        _ => false,
     }
-    if b <= 126 {
-        return true;
-    }
-    if b < 160 {
-        return false;
-    }
-    high
 }
 
 // Whether all of `s` is text.
 pub fn text_good(s: &[u8], high: bool) -> bool
     ensures { result ≡ text_good high s.now }
 {
-    let mut i: usize = 0;
-    while i < s.len() {
-        if !is_text(s[i], high) {
+    for &b in s {
+        if !is_text(b, high) {
             return false;
         }
-        i += 1;
     }
     true
 }
@@ -44,12 +37,10 @@ pub fn text_good_in(s: &[u8], from: usize, to: usize, high: bool) -> bool
 pub fn text_end(s: &[u8], from: usize) -> usize
     ensures { (result ≡ text_end s.now from) × (from ≤ result) × (result ≤ max from (length s.now)) }
 {
-    let mut i = from;
-    while i < s.len() {
+    for i in from..s.len() {
         if s[i] == 31 {
             return i;
         }
-        i += 1;
     }
-    i
+    from.max(s.len())
 }

@@ -8,6 +8,7 @@ use native.Mathlib.Omega.{arith}
 use lib.ListN.{length}
 use lib.Dec.{eqb}
 use borrow.Author.Tests.{eq-eqb, ne_eqb, eqb-true, leb-true}
+use Rattle.std.specs.Prelude.{Ok}
 use Rattle.octets.specs.Lists.{is_in}
 use Rattle.octets.specs.Number.{byte_at}
 use Rattle.octets.proofs.Cases.{true_or_false, le_or_lt}
@@ -16,7 +17,6 @@ use Rattle.iso8211.specs.Record.{end_of}
 use Rattle.iso8211.specs.Field.{field_at}
 use Rattle.iso8211.specs.Premises.{RecordIn}
 use Rattle.iso8211.specs.File.{frame_of, record_at}
-use Rattle.iso8211.specs.declared.file.Framed.TheVariants.{Records}
 use Rattle.iso8211.proofs.Promise.{record_in, at_next, last_ends}
 use Rattle.table.specs.Table.{row_of, table, DSID, DSSI, VRID, FRID}
 use Rattle.values.specs.Fault as fault
@@ -127,7 +127,7 @@ unseen j x seen (t ∷ ts) some once in_seen =
     rw (ne_eqb (item_name t) x (differs (item_name t) x seen new in_seen)) (unseen (j + 1) x (item_name t ∷ seen) ts (omega arith) on there))
     (true_or_false (is_in (item_name t) seen))
 
-module _ (s : List ℕ) (n : ℕ) (framed : frame_of s ≡ Records n) where
+module _ (s : List ℕ) (n : ℕ) (framed : frame_of s ≡ Ok n) where
   -- what is known of a state behind DSPM
   pub objects_told : (marks : List ℕ) (aall nall m k j : ℕ) (seen : List ℕ) (st : State) → ((i : ℕ) → byte_at s i < 256) → k + m ≡ n → 1 ≤ j → 2 ≤ st.stage → st.stage ≤ 3
       → st.aall ≡ aall → st.nall ≡ nall
@@ -210,7 +210,7 @@ pub record CellTold (s : List ℕ) (n : ℕ) : Type 0 where
   pub apart : Apart (aall_at s (record_at s 1)) (nall_at s (record_at s 1)) (items_from (n - 3) s (record_at s 3))
   pub known : Known (content_at s (record_at s 1) 1)
 
-pub chart_from_lem : (s marks : List ℕ) (n m : ℕ) → frame_of s ≡ Records n → length s ≤ 5242880 → ((i : ℕ) → byte_at s i < 256) → 1 + m ≡ n
+pub chart_from_lem : (s marks : List ℕ) (n m : ℕ) → frame_of s ≡ Ok n → length s ≤ 5242880 → ((i : ℕ) → byte_at s i < 256) → 1 + m ≡ n
     → (records_fault m false marks s 1 (record_at s 1) first_state).code ≡ 0 → (twice_of false s n).index ≡ 0
     → CellTold s n
 unfolding records_fault passed_state next_stage twice_of first_twice first_item chart_of header_of held_items
@@ -251,7 +251,7 @@ chart_from_lem s marks n (suc (suc m)) framed short small all fault once =
     }
 
 -- a cell without a refusal of codes 1, 2 and 4 to 7 has a chart that can be held
-pub cell_told : (s : List ℕ) (n : ℕ) → frame_of s ≡ Records n → length s ≤ 5242880 → ((i : ℕ) → byte_at s i < 256) → (read_fault false s n).code ≡ 0
+pub cell_told : (s : List ℕ) (n : ℕ) → frame_of s ≡ Ok n → length s ≤ 5242880 → ((i : ℕ) → byte_at s i < 256) → (read_fault false s n).code ≡ 0
     → (twice_of false s n).index ≡ 0 → CellTold s n
 unfolding read_fault
 cell_told s n framed short small fault once =

@@ -6,11 +6,11 @@ use mathlib.Core.Path.{◌≡◌, refl, sym, ap, ◌∙◌}
 use native.Mathlib.Omega.{arith}
 use lib.ListN.{length, get_or}
 use borrow.Author.Tests.{eq-eqb}
+use Rattle.std.specs.Prelude.{Ok}
 use Rattle.octets.specs.Number.{num_at, bytes_of}
 use Rattle.iso8211.specs.Record.{end_of}
 use Rattle.iso8211.specs.Field.{field_at}
 use Rattle.iso8211.specs.File.{frame_of, record_at}
-use Rattle.iso8211.specs.declared.file.Framed.TheVariants.{Records}
 use Rattle.iso8211.proofs.Promise.{at_start}
 use Rattle.table.specs.Table.{row_of, table, tag_of, kind_of, among, as_number, first, DSID, DSSI, DSPM}
 use Rattle.table.specs.Text.{bytes}
@@ -134,11 +134,11 @@ unfolding items_pieces
 objects_count n [] = refl
 objects_count n (t ∷ ts) = ap suc (objects_count (n + 1) ts)
 
-pub held_framed : (c : Chart) → Fits c → frame_of (held_of c) ≡ Records (record_count c)
+pub held_framed : (c : Chart) → Fits c → frame_of (held_of c) ≡ Ok (record_count c)
 unfolding records_of
 held_framed c fit =
     file_framed first_record first_is (dsid_pieces c) (dspm_pieces c ∷ items_pieces 3 c.items) fit.each
-    ∙ ap Records (let e = objects_count 3 c.items in omega arith)
+    ∙ ap Ok (let e = objects_count 3 c.items in omega arith)
 
 pub held_stands : (c : Chart) → Fits c → Standing (held_of c) c
 unfolding records_of record_at
@@ -229,7 +229,7 @@ module _ (s : List ℕ) (c : Chart) (good : GoodChart c) (few : record_count c �
 
 -- what a chart's held form is: framed, without a refusal of codes 4 to 8, the same chart, and its own held form
 pub record HeldRead (c : Chart) : Type 0 where
-  pub framed : frame_of (held_of c) ≡ Records (record_count c)
+  pub framed : frame_of (held_of c) ≡ Ok (record_count c)
   pub read : read_fault false (held_of c) (record_count c) ≡ fine
   pub once : twice_of false (held_of c) (record_count c) ≡ record { index = 0; offset = 0 }
   pub counted : counts_good (held_of c) (record_count c) ≡ true

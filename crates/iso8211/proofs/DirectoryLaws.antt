@@ -10,6 +10,7 @@ use lib.ListN.{length, take, drop, get_or, set, length-take, drop_of_length-le}
 use lib.Seq.{drop-cons, get_or-take, take-suc-set, length-take-le}
 use lib.Dec.{leb, eqb}
 use borrow.Author.Tests.{le-leb, lt-leb, eq-eqb, ne_eqb}
+use Rattle.std.specs.Prelude.{Option, Some, None}
 use Rattle.octets.specs.Number.{byte_at}
 use Rattle.octets.specs.Digits.{number_at}
 use Rattle.octets.specs.Premises.{Number, Sure}
@@ -19,8 +20,6 @@ use Rattle.iso8211.specs.Premises.{onward, StepWithin, RowStep, BatchStep, Rowed
 use Rattle.iso8211.specs.Leader.{base_at, length_digits, position_digits}
 use Rattle.iso8211.specs.Field.{count_at, directory_at, field_at, Headed, FieldsIn}
 use Rattle.iso8211.specs.declared.field.Field.{Field}
-use Rattle.iso8211.specs.declared.directory.Step.{Step}
-use Rattle.iso8211.specs.declared.directory.Step.TheVariants.{On, Bad}
 
 -- ---- a row
 pub row_is : (s : List ℕ) (l p i t a b : ℕ) → t ≡ tag_at s i → Number s (i + 4) l a → Number s (i + 4 + l) p b → t ∷ a ∷ b ∷ [] ≡ row_at s l p i
@@ -100,11 +99,11 @@ pub batch_all : (s : List ℕ) (l p i k n : ℕ) (out : List (List ℕ)) → k �
 batch_all s l p i k n out a b so = let e : k ≡ n = omega arith in rw e at so
 
 -- a bad step is within any size
-pub bad_within : (size : ℕ) → StepWithin size Bad
+pub bad_within : (size : ℕ) → StepWithin size None
 unfolding StepWithin
 bad_within size = tt
 
-pub on_within : (size due : ℕ) → due ≤ size → StepWithin size (On due)
+pub on_within : (size due : ℕ) → due ≤ size → StepWithin size (Some due)
 unfolding StepWithin
 on_within size due h = h
 
@@ -116,7 +115,7 @@ unfolding field_good
 by_row s body size due long place row e f = rw (e, f)
 
 row_bad : (s : List ℕ) (body size due long place : ℕ) → (eqb place due && (leb 1 long && (leb (due + long) size && eqb (byte_at s (body + (due + long) - 1)) 30))) ≡ false
-    → RowStep s body size long place due Bad
+    → RowStep s body size long place due None
 unfolding onward
 row_bad s body size due long place h = record {
   is = λ row more e f. in_row_next s body size due row more ∙ rw (by_row s body size due long place row e f ∙ h);
@@ -124,19 +123,19 @@ row_bad s body size due long place h = record {
 }
 
 module _ (s : List ℕ) (body size due long place : ℕ) where
-  pub place_bad : (place ≡ due → ⊥) → RowStep s body size long place due Bad
+  pub place_bad : (place ≡ due → ⊥) → RowStep s body size long place due None
   place_bad h = row_bad s body size due long place (rw (ne_eqb _ _ h))
 
-  pub short_bad : place ≡ due → long < 1 → RowStep s body size long place due Bad
+  pub short_bad : place ≡ due → long < 1 → RowStep s body size long place due None
   short_bad e h = row_bad s body size due long place (rw (eq-eqb _ _ e, lt-leb _ _ h))
 
-  pub long_bad : place ≡ due → 1 ≤ long → size < due + long → RowStep s body size long place due Bad
+  pub long_bad : place ≡ due → 1 ≤ long → size < due + long → RowStep s body size long place due None
   long_bad e l h = row_bad s body size due long place (rw (eq-eqb _ _ e, le-leb _ _ l, lt-leb _ _ h))
 
-  pub end_bad : place ≡ due → 1 ≤ long → due + long ≤ size → (byte_at s (body + (due + long) - 1) ≡ 30 → ⊥) → RowStep s body size long place due Bad
+  pub end_bad : place ≡ due → 1 ≤ long → due + long ≤ size → (byte_at s (body + (due + long) - 1) ≡ 30 → ⊥) → RowStep s body size long place due None
   end_bad e l f h = row_bad s body size due long place (rw (eq-eqb _ _ e, le-leb _ _ l, le-leb _ _ f, ne_eqb _ _ h))
 
-  pub row_good : place ≡ due → 1 ≤ long → due + long ≤ size → byte_at s (body + (due + long) - 1) ≡ 30 → RowStep s body size long place due (On (due + long))
+  pub row_good : place ≡ due → 1 ≤ long → due + long ≤ size → byte_at s (body + (due + long) - 1) ≡ 30 → RowStep s body size long place due (Some (due + long))
   unfolding onward
   row_good e l f h = record {
     is = λ row more g k. in_row_next s body size due row more ∙ rw (by_row s body size due long place row g k, eq-eqb _ _ e, le-leb _ _ l, le-leb _ _ f, eq-eqb _ _ h, g);
@@ -158,25 +157,25 @@ rowing_start s body size some due = record { is = λ more. refl }
 
 module _ {s : List ℕ} {body size due k at n long place : ℕ} (batch : List (List ℕ)) (so : Rowing s body size (take n batch) due k at) (here : k < n) (fit : n ≤ length batch)
     (e : len (get_or batch k []) ≡ long) (f : position (get_or batch k []) ≡ place) where
-  onto : {r : Step} → RowStep s body size long place at r → (more : List (List ℕ)) → in_row s body size (take n batch ++ more) due ≡ onward s body size
+  onto : {r : Option ℕ} → RowStep s body size long place at r → (more : List (List ℕ)) → in_row s body size (take n batch ++ more) due ≡ onward s body size
       (drop (k + 1) (take n batch) ++ more) r
   onto step more = so.is more ∙ ap (λ (x : List (List ℕ)). in_row s body size (x ++ more) at) (peel batch k n here fit)
       ∙ step.is (get_or batch k []) (drop (k + 1) (take n batch) ++ more) e f
 
-  pub rowing_bad : {r : Step} → RowStep s body size long place at r → r ≡ Bad → BatchStep s body size (take n batch) due Bad
+  pub rowing_bad : {r : Option ℕ} → RowStep s body size long place at r → r ≡ None → BatchStep s body size (take n batch) due None
   unfolding onward
   rowing_bad step told = let bad = rw told at step in record { is = onto bad; within = bad_within size }
 
-  pub rowing_on : {r : Step} {next : ℕ} → RowStep s body size long place at r → r ≡ On next → Rowing s body size (take n batch) due (k + 1) next
+  pub rowing_on : {r : Option ℕ} {next : ℕ} → RowStep s body size long place at r → r ≡ Some next → Rowing s body size (take n batch) due (k + 1) next
   unfolding onward
   rowing_on {next = next} step told = let on = rw told at step in record { is = onto on }
 
-pub step_most : {s : List ℕ} {body size long place due : ℕ} {r : Step} {next : ℕ} → RowStep s body size long place due r → r ≡ On next → next ≤ size
+pub step_most : {s : List ℕ} {body size long place due : ℕ} {r : Option ℕ} {next : ℕ} → RowStep s body size long place due r → r ≡ Some next → next ≤ size
 unfolding StepWithin
 step_most step told = (rw told at step).within
 
 pub rowing_end : {s : List ℕ} {body size : ℕ} {due at : ℕ} (k n : ℕ) (batch : List (List ℕ)) → n ≤ k → at ≤ size → Rowing s body size (take n batch) due k at
-    → BatchStep s body size (take n batch) due (On at)
+    → BatchStep s body size (take n batch) due (Some at)
 unfolding onward
 rowing_end {s} {body} {size} {due} {at} k n batch h w so = record {
   is = λ more. so.is more ∙ ap (λ (x : List (List ℕ)). in_row s body size (x ++ more) at) (drop_of_length-le (take n batch) {i = k} (rw length-take (omega arith)));

@@ -11,6 +11,7 @@ use native.Mathlib.Omega.{arith}
 use lib.ListN.{length, get_or}
 use lib.Dec.{eqb, leb}
 use borrow.Author.Tests.{eqb-true, leb-true}
+use Rattle.std.specs.Prelude.{Result, Ok, Err}
 use Rattle.octets.specs.Number.{byte_at}
 use Rattle.octets.proofs.Cases.{eq_or_ne}
 use Rattle.octets.proofs.Tests.{both, all4}
@@ -21,14 +22,12 @@ use Rattle.iso8211.specs.Field.{count_at, directory_at, field_at, Headed, FieldI
 use Rattle.iso8211.specs.Premises.{FramedAt, RecordIn, Due}
 use Rattle.iso8211.specs.File.{framed_from, frame_of, record_at}
 use Rattle.iso8211.specs.declared.field.Field.{Field}
-use Rattle.iso8211.specs.declared.file.Framed.{Framed}
-use Rattle.iso8211.specs.declared.file.Framed.TheVariants.{Records, Broken}
 use Rattle.iso8211.proofs.DirectoryLaws.{rows_length}
 use Rattle.iso8211.proofs.RecordLaws.{record_framed, record_row}
 use Rattle.iso8211.proofs.FileLaws.{apart, end_past}
 
 -- ---- records
-good_from : (f : ℕ) (s : List ℕ) (at k n j : ℕ) → framed_from f s at k ≡ Records n → at ≡ record_at s k → k ≤ j → j < n → record_good (eqb j 0) s (record_at s j) ≡ true
+good_from : (f : ℕ) (s : List ℕ) (at k n j : ℕ) → framed_from f s at k ≡ Ok n → at ≡ record_at s k → k ≤ j → j < n → record_good (eqb j 0) s (record_at s j) ≡ true
 unfolding framed_from record_at
 good_from zero s at k n j v e low high = absurd (let z : ◌≡◌ {A = ℕ} 0 1 = cc in omega arith)
 good_from (suc f) s at k n j v e low high =
@@ -36,17 +35,17 @@ good_from (suc f) s at k n j v e low high =
     ⊎_elim (λ (same : k ≡ j). rw (← same, ← e) a.0)
     (λ (other : k ≡ j → ⊥).
     ⊎_elim (λ (last : (eqb (end_of s at) (length s) ≡ true) × (k + 1 ≡ n)). let m = last.1 in absurd (omega arith))
-    (λ (on : (eqb (end_of s at) (length s) ≡ false) × (framed_from f s (end_of s at) (k + 1) ≡ Records n)).
+    (λ (on : (eqb (end_of s at) (length s) ≡ false) × (framed_from f s (end_of s at) (k + 1) ≡ Ok n)).
     good_from f s (end_of s at) (k + 1) n j on.1 (rw (add-one k, e)) (omega arith) high)
     a.1)
     (eq_or_ne k j)
 
-good_at : (s : List ℕ) (n k : ℕ) → frame_of s ≡ Records n → k < n → record_good (eqb k 0) s (record_at s k) ≡ true
+good_at : (s : List ℕ) (n k : ℕ) → frame_of s ≡ Ok n → k < n → record_good (eqb k 0) s (record_at s k) ≡ true
 unfolding frame_of record_at
 good_at s n k v h = good_from (suc (length s)) s 0 0 n k v refl (omega arith) h
 
 -- each record is framed
-pub framed_at : (s : List ℕ) (n k at : ℕ) → frame_of s ≡ Records n → k < n → at ≡ record_at s k → FramedAt s at
+pub framed_at : (s : List ℕ) (n k at : ℕ) → frame_of s ≡ Ok n → k < n → at ≡ record_at s k → FramedAt s at
 framed_at s n k at v h e = rw e (record_framed (eqb k 0) s (record_at s k) (good_at s n k v h))
 
 -- so that its fields can be read
@@ -69,55 +68,55 @@ at_start s = sym (at_first s)
 pub at_on : (s : List ℕ) (k at e : ℕ) → at ≡ record_at s k → e ≡ end_of s at → e ≡ record_at s (k + 1)
 at_on s k at e so is = is ∙ at_next s k at so
 
-pub at_past : (s : List ℕ) (n k : ℕ) → frame_of s ≡ Records n → k < n → record_at s k < record_at s (k + 1)
+pub at_past : (s : List ℕ) (n k : ℕ) → frame_of s ≡ Ok n → k < n → record_at s k < record_at s (k + 1)
 unfolding record_at
 at_past s n k v h = rw (add-one k) (end_past (eqb k 0) s (record_at s k) (good_at s n k v h))
 
 -- a record takes a byte at least
-pub at_least : (s : List ℕ) (n k : ℕ) → frame_of s ≡ Records n → k ≤ n → k ≤ record_at s k
+pub at_least : (s : List ℕ) (n k : ℕ) → frame_of s ≡ Ok n → k ≤ n → k ≤ record_at s k
 at_least s n zero v h = omega arith
 at_least s n (suc k) v h =
     let low = at_least s n k v (omega arith) in
     let past : record_at s k < record_at s (suc k) = rw (add-one k) at (at_past s n k v (omega arith)) in
     omega arith
 
-ends_from : (f : ℕ) (s : List ℕ) (at k n : ℕ) → framed_from f s at k ≡ Records n → at ≡ record_at s k → (k < n) × (record_at s n ≡ length s)
+ends_from : (f : ℕ) (s : List ℕ) (at k n : ℕ) → framed_from f s at k ≡ Ok n → at ≡ record_at s k → (k < n) × (record_at s n ≡ length s)
 unfolding framed_from record_at
 ends_from zero s at k n v e = absurd (let z : ◌≡◌ {A = ℕ} 0 1 = cc in omega arith)
 ends_from (suc f) s at k n v e =
     let a = apart (record_good (eqb k 0) s at) (eqb (end_of s at) (length s)) k n (framed_from f s (end_of s at) (k + 1)) v in
     ⊎_elim (λ (last : (eqb (end_of s at) (length s) ≡ true) × (k + 1 ≡ n)).
     (let m = last.1 in omega arith, rw (← last.1, add-one k) (rw (← e) (eqb-true _ _ last.0))))
-    (λ (on : (eqb (end_of s at) (length s) ≡ false) × (framed_from f s (end_of s at) (k + 1) ≡ Records n)).
+    (λ (on : (eqb (end_of s at) (length s) ≡ false) × (framed_from f s (end_of s at) (k + 1) ≡ Ok n)).
     let r = ends_from f s (end_of s at) (k + 1) n on.1 (rw (add-one k, e)) in (let q = r.0 in omega arith, r.1))
     a.1
 
 -- "one or more records and nothing after"
-pub last_ends : (s : List ℕ) (n : ℕ) → frame_of s ≡ Records n → (0 < n) × (record_at s n ≡ length s)
+pub last_ends : (s : List ℕ) (n : ℕ) → frame_of s ≡ Ok n → (0 < n) × (record_at s n ≡ length s)
 unfolding frame_of record_at
 last_ends s n v = ends_from (suc (length s)) s 0 0 n v refl
 
 -- the number in a verdict is at most that of the bytes
-pub records_few : (s : List ℕ) (n : ℕ) → frame_of s ≡ Records n → n ≤ length s
+pub records_few : (s : List ℕ) (n : ℕ) → frame_of s ≡ Ok n → n ≤ length s
 records_few s n v = let low = at_least s n n v (le_refl n) in let e = last_ends s n v in omega (arith, e.1)
 
-pub broken_apart : (good last : Bool) (k j : ℕ) (on : Framed) → cond good (cond last (Records (k + 1)) on) (Broken k) ≡ Broken j → (k ≡ j) ⊎ ((good ≡ true) × (on ≡ Broken j))
+pub broken_apart : (good last : Bool) (k j : ℕ) (on : Result ℕ ℕ) → cond good (cond last (Ok (k + 1)) on) (Err k) ≡ Err j → (k ≡ j) ⊎ ((good ≡ true) × (on ≡ Err j))
 broken_apart true true k j on v = absurd (let z : ◌≡◌ {A = ℕ} 0 1 = cc in omega arith)
 broken_apart true false k j on v = inr (refl, v)
 broken_apart false last k j on v = inl cc
 
-broken_from : (f : ℕ) (s : List ℕ) (at k j : ℕ) → framed_from f s at k ≡ Broken j → k ≤ at → at ≤ length s → j ≤ length s
+broken_from : (f : ℕ) (s : List ℕ) (at k j : ℕ) → framed_from f s at k ≡ Err j → k ≤ at → at ≤ length s → j ≤ length s
 unfolding framed_from
 broken_from zero s at k j v low high = let e : k ≡ j = cc in omega arith
 broken_from (suc f) s at k j v low high =
     ⊎_elim (λ (e : k ≡ j). omega arith)
-    (λ (on : (record_good (eqb k 0) s at ≡ true) × (framed_from f s (end_of s at) (k + 1) ≡ Broken j)).
+    (λ (on : (record_good (eqb k 0) s at ≡ true) × (framed_from f s (end_of s at) (k + 1) ≡ Err j)).
     let past = end_past (eqb k 0) s at on.0 in
     let fits = (record_framed (eqb k 0) s at on.0).fits in
     broken_from f s (end_of s at) (k + 1) j on.1 (omega arith) fits)
     (broken_apart (record_good (eqb k 0) s at) (eqb (end_of s at) (length s)) k j (framed_from f s (end_of s at) (k + 1)) v)
 
-pub broken_few : (s : List ℕ) (k : ℕ) → frame_of s ≡ Broken k → k ≤ length s
+pub broken_few : (s : List ℕ) (k : ℕ) → frame_of s ≡ Err k → k ≤ length s
 unfolding frame_of
 broken_few s k v = broken_from (suc (length s)) s 0 0 k v (omega arith) (omega arith)
 
@@ -223,7 +222,7 @@ good_in first s at good =
     }
 
 -- each record of a framed file
-pub record_in : (s : List ℕ) (n k at : ℕ) → frame_of s ≡ Records n → k < n → at ≡ record_at s k → RecordIn s at
+pub record_in : (s : List ℕ) (n k at : ℕ) → frame_of s ≡ Ok n → k < n → at ≡ record_at s k → RecordIn s at
 record_in s n k at v h e = good_in (eqb k 0) s at (rw e (good_at s n k v h))
 
 -- the same by its directory alone

@@ -8,15 +8,16 @@ use native.Mathlib.Omega.{arith}
 use lib.ListN.{length, take}
 use lib.Dec.{leb, eqb}
 use borrow.Author.Tests.{leb-true, eqb-true}
+use Rattle.std.specs.Prelude.{Option, Some, None}
 use Rattle.octets.specs.Number.{byte_at}
+use Rattle.octets.specs.Place.{some_place}
+use Rattle.octets.proofs.PlaceLaws.{nowhere, somewhere}
 use Rattle.octets.proofs.Tests.{told_no, told_yes, both, all3, all4}
 use Rattle.iso8211.specs.Leader.{size_at, base_at, length_digits, position_digits, kind_good, size_good, leader_good}
 use Rattle.iso8211.specs.Directory.{row_width, rows}
 use Rattle.iso8211.specs.Record.{in_row, body_good, record_good, Led}
 use Rattle.iso8211.specs.Premises.{onward, StepWithin, BatchStep, good_end, FramedAt}
 use Rattle.iso8211.specs.Field.{count_at, directory_at}
-use Rattle.iso8211.specs.declared.directory.Step.{Step}
-use Rattle.iso8211.specs.declared.directory.Step.TheVariants.{On, Bad}
 use Rattle.iso8211.proofs.DirectoryLaws.{rows_split, rows_none}
 
 -- ---- fields_good: batch by batch
@@ -29,21 +30,21 @@ left_start s l p body size count i = record { is = refl }
 
 module _ {s : List ℕ} {l p body size : ℕ} {v : Bool} {left at due : ℕ} (so : Left s l p body size v left at due) (n : ℕ) (few : n ≤ left) (batch : List (List ℕ))
     (taken : take n batch ≡ rows n s l p at) where
-  batched : {r : Step} → BatchStep s body size (take n batch) due r → v ≡ onward s body size (rows (left - n) s l p (at + n * row_width l p)) r
+  batched : {r : Option ℕ} → BatchStep s body size (take n batch) due r → v ≡ onward s body size (rows (left - n) s l p (at + n * row_width l p)) r
   batched step =
       so.is ∙ ap (λ (x : List (List ℕ)). in_row s body size x due)
       (rows_split n (left - n) left s l p at (omega arith) ∙ ap (λ (x : List (List ℕ)). x ++ rows (left - n) s l p (at + n * row_width l p)) (sym taken))
       ∙ step.is (rows (left - n) s l p (at + n * row_width l p))
 
-  pub left_bad : {r : Step} → BatchStep s body size (take n batch) due r → r ≡ Bad → false ≡ v
+  pub left_bad : {r : Option ℕ} → BatchStep s body size (take n batch) due r → r ≡ None → false ≡ v
   unfolding onward
   left_bad step told = sym (batched (rw told at step))
 
-  pub left_on : {r : Step} {next : ℕ} → BatchStep s body size (take n batch) due r → r ≡ On next → Left s l p body size v (left - n) (at + n * row_width l p) next
+  pub left_on : {r : Option ℕ} {next : ℕ} → BatchStep s body size (take n batch) due r → r ≡ Some next → Left s l p body size v (left - n) (at + n * row_width l p) next
   unfolding onward
   left_on step told = record { is = batched (rw told at step) }
 
-pub batch_most : {s : List ℕ} {body size due : ℕ} {some : List (List ℕ)} {r : Step} {next : ℕ} → BatchStep s body size some due r → r ≡ On next → next ≤ size
+pub batch_most : {s : List ℕ} {body size due : ℕ} {some : List (List ℕ)} {r : Option ℕ} {next : ℕ} → BatchStep s body size some due r → r ≡ Some next → next ≤ size
 unfolding StepWithin
 batch_most step told = (rw told at step).within
 
@@ -74,22 +75,9 @@ led first s at r e h =
     let m = both (leb 49 b21) (leb b21 57) q.0 in
     record { there = leb-true _ _ p.0; l_low = leb-true _ _ l.0; l_high = leb-true _ _ l.1; p_low = leb-true _ _ m.0; p_high = leb-true _ _ m.1 }
 
-pub end_led : (first : Bool) (s : List ℕ) (at : ℕ) (r : Bool) → r ≡ leader_good first s at → not r ≡ true → 0 ≡ good_end first s at
+pub end_led : (first : Bool) (s : List ℕ) (at : ℕ) (r : Bool) → r ≡ leader_good first s at → not r ≡ true → None ≡ some_place (good_end first s at)
 unfolding good_end record_good
-end_led first s at r e h = rw (told_no r (leader_good first s at) e h)
-
-module _ (first : Bool) (s : List ℕ) (at size base l p : ℕ) (r q : Bool) (e : r ≡ leader_good first s at) (h : not r ≡ false)
-    (is : size ≡ size_at s at) (based : base ≡ base_at s at) (ls : l ≡ length_digits s at) (ps : p ≡ position_digits s at) (f : q ≡ body_good s at size base l p) where
-  same_body : body_good s at size base l p ≡ body_good s at (size_at s at) (base_at s at) (length_digits s at) (position_digits s at)
-  same_body = rw (is, based, ls, ps)
-
-  pub end_body : not q ≡ true → 0 ≡ good_end first s at
-  unfolding good_end record_good
-  end_body g = rw (told_yes r (leader_good first s at) e h, ← same_body, told_no q (body_good s at size base l p) f g)
-
-  pub end_good_lem : not q ≡ false → at + size ≡ good_end first s at
-  unfolding good_end record_good
-  end_good_lem g = rw (told_yes r (leader_good first s at) e h, ← same_body, told_yes q (body_good s at size base l p) f g, is)
+end_led first s at r e h = nowhere (rw (told_no r (leader_good first s at) e h))
 
 -- a record whose body is good ends within the file
 pub end_within : (s : List ℕ) (at size base l p : ℕ) (q : Bool) → q ≡ body_good s at size base l p → not q ≡ false → at + size ≤ length s
@@ -97,6 +85,31 @@ unfolding body_good
 end_within s at size base l p q f g =
     let good = told_yes q (body_good s at size base l p) f g in
     leb-true _ _ (all3 (leb size 99999) (leb (at + size) (length s)) _ good).1
+
+-- and has a byte
+end_not_zero : (s : List ℕ) (at size base l p : ℕ) (q : Bool) → q ≡ body_good s at size base l p → not q ≡ false → at + size ≡ 0 → ⊥
+unfolding body_good
+end_not_zero s at size base l p q f g z =
+    let a = all4 (leb size 99999) (leb (at + size) (length s)) (leb base size) _ (told_yes q (body_good s at size base l p) f g) in
+    let high : base ≤ size = leb-true _ _ a.2 in
+    let low : 25 + row_width l p ≤ base = leb-true _ _ (both (leb (25 + row_width l p) base) _ a.3).0 in
+    omega arith
+
+module _ (first : Bool) (s : List ℕ) (at size base l p : ℕ) (r q : Bool) (e : r ≡ leader_good first s at) (h : not r ≡ false)
+    (is : size ≡ size_at s at) (based : base ≡ base_at s at) (ls : l ≡ length_digits s at) (ps : p ≡ position_digits s at) (f : q ≡ body_good s at size base l p) where
+  same_body : body_good s at size base l p ≡ body_good s at (size_at s at) (base_at s at) (length_digits s at) (position_digits s at)
+  same_body = rw (is, based, ls, ps)
+
+  pub end_body : not q ≡ true → None ≡ some_place (good_end first s at)
+  unfolding good_end record_good
+  end_body g = nowhere (rw (told_yes r (leader_good first s at) e h, ← same_body, told_no q (body_good s at size base l p) f g))
+
+  pub end_good_lem : not q ≡ false → Some (at + size) ≡ some_place (good_end first s at)
+  unfolding good_end record_good
+  end_good_lem g =
+      let there : at + size ≡ good_end first s at =
+      rw (told_yes r (leader_good first s at) e h, ← same_body, told_yes q (body_good s at size base l p) f g, is) in
+      somewhere _ there (end_not_zero s at size base l p q f g)
 
 -- ---- what a good record tells
 pub record_framed : (first : Bool) (s : List ℕ) (at : ℕ) → record_good first s at ≡ true → FramedAt s at

@@ -1,12 +1,10 @@
 -- What the code knows of records, fields and directories. It serves the proofs, and nothing here need be believed. Assumes nothing.
-use Rattle.std.specs.Prelude.{ℕ, ◌+◌, ◌≤◌, ◌<◌, List, ◌∷◌, ◌++◌, length, ◌≡◌, Bool, false, cond}
+use Rattle.std.specs.Prelude.{ℕ, ◌+◌, ◌≤◌, ◌<◌, List, ◌∷◌, ◌++◌, length, ◌≡◌, Bool, false, cond, Option, Some, None}
 use Rattle.iso8211.specs.Leader.{size_at, base_at, length_digits, position_digits}
 use Rattle.iso8211.specs.Directory.{position, len}
 use Rattle.iso8211.specs.Record.{end_of, in_row, record_good}
 use Rattle.iso8211.specs.declared.field.Head.{Head}
 use Rattle.iso8211.specs.Field.{FieldIn, Headed, count_at, field_at}
-use Rattle.iso8211.specs.declared.directory.Step.{Step}
-use Rattle.iso8211.specs.declared.directory.Step.TheVariants.{On, Bad}
 
 -- what is known of a record whose framing is good
 pub record FramedAt (s : List ℕ) (at : ℕ) : Type 0 where
@@ -42,22 +40,22 @@ pub record Due (s : List ℕ) (at j x : ℕ) : Type 0 where
   pub is : j < count_at s at → x ≡ (field_at s at j).start
 
 -- what the rest of the fields makes of a step's answer: where the next field is due, or that one was bad
-unfoldable pub onward : List ℕ → ℕ → ℕ → List (List ℕ) → Step → Bool
-onward s body size more (On due) = in_row s body size more due
-onward s body size more Bad = false
+unfoldable pub onward : List ℕ → ℕ → ℕ → List (List ℕ) → Option ℕ → Bool
+onward s body size more (Some due) = in_row s body size more due
+onward s body size more None = false
 
 -- the place where the next field is due lies within the fields
-unfoldable pub StepWithin : ℕ → Step → Type 0
-StepWithin size (On due) = due ≤ size
-StepWithin size Bad = Unit {0}
+unfoldable pub StepWithin : ℕ → Option ℕ → Type 0
+StepWithin size (Some due) = due ≤ size
+StepWithin size None = Unit {0}
 
 -- r is what judging the field of a row of this length and position answers, whatever rows come after it
-pub record RowStep (s : List ℕ) (body size long place due : ℕ) (r : Step) : Type 0 where
+pub record RowStep (s : List ℕ) (body size long place due : ℕ) (r : Option ℕ) : Type 0 where
   pub is : (row : List ℕ) (more : List (List ℕ)) → len row ≡ long → position row ≡ place → in_row s body size (row ∷ more) due ≡ onward s body size more r
   pub within : StepWithin size r
 
 -- r is what judging the fields of these rows answers, whatever rows come after them
-pub record BatchStep (s : List ℕ) (body size : ℕ) (some : List (List ℕ)) (due : ℕ) (r : Step) : Type 0 where
+pub record BatchStep (s : List ℕ) (body size : ℕ) (some : List (List ℕ)) (due : ℕ) (r : Option ℕ) : Type 0 where
   pub is : (more : List (List ℕ)) → in_row s body size (some ++ more) due ≡ onward s body size more r
   pub within : StepWithin size r
 

@@ -9,13 +9,6 @@ ghost use Rattle.iso8211.specs.Premises.{RowStep, BatchStep};
 use octets::digits::get_digits;
 use octets::number::wide;
 
-// What judging a batch of rows finds: where the field after them is due, or that one of them is bad.
-#[derive(Drop)]
-pub enum Step {
-    On(usize),
-    Bad,
-}
-
 pub fn tag_at(s: &[u8], i: usize) -> u32
     requires { i + 4 ≤ length s.now }
     ensures { result ≡ tag_at s.now i }
@@ -41,38 +34,43 @@ pub fn batch(s: &[u8], l: usize, p: usize, i: usize, n: usize) -> [[u32; 3]; 8]
 {
     let mut out = [[0u32; 3]; 8];
     let mut at = i;
-    let mut k: usize = 0;
-    while k < n {
-        out[k] = row_at(s, l, p, at);
+    for row in &mut out[..n] {
+        *row = row_at(s, l, p, at);
         at += 4 + l + p;
-        k += 1;
     }
     out
 }
 
-// Whether the field of one row, of these two numbers, is good, due at `due` in the `size` bytes of
-// fields from `body` on.
-fn field_step(s: &[u8], body: usize, size: usize, length: u32, position: u32, due: usize) -> Step
+// Where the next field is due if that of one row, of these two numbers, is good, due at `due` in the
+// `size` bytes of fields from `body` on.
+fn field_step(
+    s: &[u8],
+    body: usize,
+    size: usize,
+    length: u32,
+    position: u32,
+    due: usize,
+) -> Option<usize>
     requires { (body + size ≤ lib.ListN.length s.now) × (due ≤ size) }
     ensures { RowStep s.now body size length position due result }
 {
     let long = length as usize;
     if position as usize != due {
-        return Step::Bad;
+        return None;
     }
     if long < 1 {
-        return Step::Bad;
+        return None;
     }
     if size < due + long {
-        return Step::Bad;
+        return None;
     }
     if s[body + (due + long) - 1] != 30 {
-        return Step::Bad;
+        return None;
     }
-    Step::On(due + long)
+    Some(due + long)
 }
 
-// Whether the fields of the first n rows of a batch are good.
+// Where the next field is due if those of the first n rows of a batch are good.
 pub fn judged(
     s: &[u8],
     body: usize,
@@ -80,20 +78,14 @@ pub fn judged(
     batch: [[u32; 3]; 8],
     n: usize,
     due: usize,
-) -> Step
+) -> Option<usize>
     requires { (body + size ≤ length s.now) × ((due ≤ size) × (n ≤ 8)) }
     ensures { BatchStep s.now body size (take n batch) due result }
 {
     let mut at = due;
-    let mut k: usize = 0;
-    while k < n {
+    for k in 0..n {
         let row = batch[k];
-        let step = field_step(s, body, size, row[1], row[2], at);
-        let Step::On(next) = step else {
-            return Step::Bad;
-        };
-        at = next;
-        k += 1;
+        at = field_step(s, body, size, row[1], row[2], at)?;
     }
-    Step::On(at)
+    Some(at)
 }

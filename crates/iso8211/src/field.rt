@@ -60,45 +60,56 @@ fn row_place(s: &[u8], at: usize, l: usize, p: usize, k: usize) -> usize
     at + 24 + k * (4 + l + p)
 }
 
-// Field k of the record at `at`, whose head is h.
-pub fn field_at(s: &[u8], at: usize, h: Head, k: usize) -> Field
-    requires { HeadOf s.now at h × (k < count_at s.now at) }
-    ensures { result ≡ field_at s.now at k }
-{
-    let l = h.lengths;
-    let p = h.positions;
-    let base = h.base;
-    let i = row_place(s, at, l, p, k);
-    let row = row_at(s, l, p, i);
-    Field {
-        tag: row[0],
-        start: at + base + row[2] as usize,
-        length: row[1] as usize,
+// A record of a file whose leader and directory are good, with its head.
+#[derive(Clone, Copy)]
+pub struct Record<'a> {
+    pub file: &'a [u8],
+    pub at: usize,
+    pub head: Head,
+    pub ghost headed: { HeadOf file.now at head },
+}
+
+impl<'a> Record<'a> {
+    // Field k.
+    pub fn field(&self, k: usize) -> Field
+        requires { k < count_at self.now.file.now self.now.at }
+        ensures { result ≡ field_at self.now.file.now self.now.at k }
+    {
+        let l = self.head.lengths;
+        let p = self.head.positions;
+        let base = self.head.base;
+        let i = row_place(self.file, self.at, l, p, k);
+        let row = row_at(self.file, l, p, i);
+        Field {
+            tag: row[0],
+            start: self.at + base + row[2] as usize,
+            length: row[1] as usize,
+        }
     }
-}
 
-// Its tag alone, for a walk that takes the rest of a field only where the tag is the one it looks
-// for.
-pub fn tag_of(s: &[u8], at: usize, h: Head, k: usize) -> u32
-    requires { HeadOf s.now at h × (k < count_at s.now at) }
-    ensures { result ≡ (field_at s.now at k).tag }
-{
-    let l = h.lengths;
-    let p = h.positions;
-    let i = row_place(s, at, l, p, k);
-    tag_at(s, i)
-}
+    // Its tag alone, for a walk that takes the rest of a field only where the tag is the one it looks
+    // for.
+    pub fn tag(&self, k: usize) -> u32
+        requires { k < count_at self.now.file.now self.now.at }
+        ensures { result ≡ (field_at self.now.file.now self.now.at k).tag }
+    {
+        let l = self.head.lengths;
+        let p = self.head.positions;
+        let i = row_place(self.file, self.at, l, p, k);
+        tag_at(self.file, i)
+    }
 
-// The same where it is known already where the field starts, as in a walk over all fields: its
-// position needs no reading. Its length is known to be a number, since the field lies in the file.
-pub fn field_on(s: &[u8], at: usize, h: Head, k: usize, start: usize) -> Field
-    requires { HeadOf s.now at h × ((k < count_at s.now at) × (Due s.now at k start × FieldsIn s.now at)) }
-    ensures { result ≡ field_at s.now at k }
-{
-    let l = h.lengths;
-    let p = h.positions;
-    let i = row_place(s, at, l, p, k);
-    let length = sure_at(s, i + 4, l) as usize;
-    let tag = tag_at(s, i);
-    Field { tag, start, length }
+    // The same where it is known already where the field starts, as in a walk over all fields: its
+    // position needs no reading. Its length is known to be a number, since the field lies in the file.
+    pub fn field_on(&self, k: usize, start: usize) -> Field
+        requires { (k < count_at self.now.file.now self.now.at) × (Due self.now.file.now self.now.at k start × FieldsIn self.now.file.now self.now.at) }
+        ensures { result ≡ field_at self.now.file.now self.now.at k }
+    {
+        let l = self.head.lengths;
+        let p = self.head.positions;
+        let i = row_place(self.file, self.at, l, p, k);
+        let length = sure_at(self.file, i + 4, l) as usize;
+        let tag = tag_at(self.file, i);
+        Field { tag, start, length }
+    }
 }

@@ -1,11 +1,12 @@
 // One record: whether its framing is good.
-ghost use Rattle.std.specs.Prelude.{◌+◌, ◌-◌, ◌*◌, ◌≤◌, min, ◌≡◌, length};
+ghost use Rattle.std.specs.Prelude.{◌+◌, ◌-◌, ◌*◌, ◌≤◌, min, ◌≡◌, IfSome, length};
 ghost use Rattle.octets.specs.Number.{byte_at};
+ghost use Rattle.octets.specs.Place.{some_place};
 ghost use Rattle.iso8211.specs.Directory.{row_width, rows};
 ghost use Rattle.iso8211.specs.Record.{in_row, body_good};
 ghost use Rattle.iso8211.specs.Premises.{good_end};
 
-use crate::directory::{Step, batch, judged};
+use crate::directory::{batch, judged};
 use crate::leader::leader_good;
 use octets::digits::get_digits;
 use octets::number::wide;
@@ -34,11 +35,11 @@ fn fields_good(
     let mut at = i;
     let mut left = count;
     let mut due: usize = 0;
+    // A while: the step is the batch's own size, which is less at the end.
     while 0 < left {
         let n = batch_size(left);
         let rows = batch(s, l, p, at, n);
-        let step = judged(s, body, size, rows, n, due);
-        let Step::On(next) = step else {
+        let Some(next) = judged(s, body, size, rows, n, due) else {
             return false;
         };
         due = next;
@@ -84,20 +85,20 @@ pub fn digit_at(s: &[u8], i: usize) -> usize
     (wide(s[i]) - 48) as usize
 }
 
-// Where the record at `at` ends, or 0 where its framing is broken.
-pub fn good_end(s: &[u8], at: usize, first: bool) -> usize
+// Where the record at `at` ends; none where its framing is broken.
+pub fn good_end(s: &[u8], at: usize, first: bool) -> Option<usize>
     requires { at ≤ length s.now }
-    ensures { (result ≡ good_end first s.now at) × (result ≤ length s.now) }
+    ensures { (result ≡ some_place (good_end first s.now at)) × IfSome result (λ end. end ≤ length s.now) }
 {
     if !leader_good(s, at, first) {
-        return 0;
+        return None;
     }
     let size = get_digits(s, at, 5) as usize;
     let base = get_digits(s, at + 12, 5) as usize;
     let l = digit_at(s, at + 20);
     let p = digit_at(s, at + 21);
     if !body_good(s, at, size, base, l, p) {
-        return 0;
+        return None;
     }
-    at + size
+    Some(at + size)
 }

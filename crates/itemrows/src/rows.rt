@@ -6,10 +6,7 @@ ghost use Rattle.itemrows.specs.Joined.{fields_of, bytes_for, count_of, sum_of, 
 fn fields_of(t: u32) -> usize
     ensures { (result ≡ fields_of t) × (result ≤ 1) }
 {
-    if t == 0 {
-        return 0;
-    }
-    1
+    usize::from(t != 0)
 }
 
 // How many bytes they have, with their 1E.
@@ -63,14 +60,11 @@ pub fn list_rows(
     let mut out = rows;
     let mut m = n;
     let mut d = due;
-    let mut i: usize = 0;
-    while i < 4 {
-        let t = totals[i];
-        let next = with_list(out, m, d, tags[i], t);
+    for (tag, t) in tags.iter().zip(&totals) {
+        let next = with_list(out, m, d, *tag, *t);
         out = next;
-        m += fields_of(t);
-        d += bytes_for(t);
-        i += 1;
+        m += fields_of(*t);
+        d += bytes_for(*t);
     }
     out
 }

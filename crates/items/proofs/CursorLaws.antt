@@ -8,6 +8,7 @@ use native.Mathlib.Nat.{sub-zero}
 use native.Mathlib.Omega.{arith}
 use lib.ListN.{length, take, drop, length-take, length-drop}
 use lib.Seq.{take-take, take-nil, drop-drop}
+use Rattle.std.specs.Prelude.{Option, Some, None}
 use Rattle.octets.proofs.Tests.{told_no, told_yes}
 use Rattle.iso8211.specs.Field.{count_at, field_at}
 use Rattle.iso8211.specs.declared.field.Field.{Field}
@@ -25,8 +26,6 @@ use Rattle.items.specs.Premises.{LaidOut}
 use Rattle.items.specs.Lists.{part_at, join_from, entries_at}
 use Rattle.items.specs.Cursors.{left, CursorIn, Settled, Stepped}
 use Rattle.items.specs.declared.cursor.Cursor.{Cursor}
-use Rattle.items.specs.declared.cursor.Next.{Next}
-use Rattle.items.specs.declared.cursor.Next.TheVariants.{Entry, Done}
 use Rattle.items.proofs.ListsLaws.{part_yes, whole_none, field_whole, entries_next, entries_skip, entries_end, entries_all}
 use Rattle.items.proofs.CountLaws.{kind_same, kind_other, lent_is}
 
@@ -60,14 +59,14 @@ settled_here s at k c inside h = record { inside = inside; same = refl; last = �
 
 module _ (s : List ℕ) (at k field₀ field m : ℕ) (all : m ≡ count_at s at)
     (so : entries_of (shape_of k) (join_from (count_at s at - field₀) s at k field₀) ≡ entries_of (shape_of k) (join_from (count_at s at - field) s at k field)) where
-  pub settled_end : (c : Cursor) → CursorIn s at k c → c.to ≤ c.from → c.field ≡ field₀ → field ≤ count_at s at → m ≤ field
-      → Settled s at k c (record { field = field; from = c.to; to = c.to })
-  settled_end c inside used first below h =
+  pub settled_end : (c : Cursor) → CursorIn s at k c → c.to ≤ c.from → c.field ≡ field₀ → m ≤ field
+      → Settled s at k c (record { field = m; from = c.to; to = c.to })
+  settled_end c inside used first h =
       let within = inside.within in
-      let past : Cursor = record { field = field; from = c.to; to = c.to } in
-      let none : left s at k past ≡ [] = spent_left s at k past (omega arith) ∙ entries_end s at k field (omega arith) in
+      let past : Cursor = record { field = m; from = c.to; to = c.to } in
+      let none : left s at k past ≡ [] = spent_left s at k past (omega arith) ∙ entries_end s at k m (omega arith) in
       record {
-        inside = record { order = omega arith; within = within; below = below; wholly = rw (spent_part s c.to c.to (omega arith)) (whole_none (shape_of k)) };
+        inside = record { order = omega arith; within = within; below = omega arith; wholly = rw (spent_part s c.to c.to (omega arith)) (whole_none (shape_of k)) };
         same = spent_left s at k c used ∙ rw first (so ∙ entries_end s at k field (omega arith)) ∙ sym none;
         last = λ (e : c.to ≤ c.to). none;
       }
@@ -101,13 +100,13 @@ module _ (s : List ℕ) (at k field₀ field m : ℕ) (all : m ≡ count_at s at
         }
 
 -- ---- what a step answers, the cursor being settled at d
-pub step_none : (s : List ℕ) (at k : ℕ) (c d : Cursor) → Settled s at k c d → d.to ≤ d.from → Stepped s at k c Done
+pub step_none : (s : List ℕ) (at k : ℕ) (c d : Cursor) → Settled s at k c d → d.to ≤ d.from → Stepped s at k c None
 unfolding Stepped
 step_none s at k c d settled h = settled.same ∙ settled.last h
 
 pub step_some : (s : List ℕ) (at k : ℕ) (c d : Cursor) (sh : Shape) (n : ℕ) → Settled s at k c d → d.from < d.to → sh ≡ shape_of k
     → n ≡ entry_len sh (take (d.to - d.from) (drop d.from s))
-    → Stepped s at k c (Entry d.from (d.from + n) (record { field = d.field; from = d.from + n; to = d.to }))
+    → Stepped s at k c (Some (d.from, d.from + n, record { field = d.field; from = d.from + n; to = d.to }))
 unfolding Stepped left
 step_some s at k c d sh n settled h shape size =
     let from = d.from in
@@ -132,12 +131,12 @@ step_some s at k c d sh n settled h shape size =
     )
 
 -- ---- what a caller learns of a step: r is its answer at the cursor c
-module _ (s : List ℕ) (at k : ℕ) (c : Cursor) (r : Next) (stepped : Stepped s at k c r) where
-  pub next_done : r ≡ Done → left s at k c ≡ []
+module _ (s : List ℕ) (at k : ℕ) (c : Cursor) (r : Option (ℕ × ℕ × Cursor)) (stepped : Stepped s at k c r) where
+  pub next_done : r ≡ None → left s at k c ≡ []
   unfolding Stepped
   next_done e = rw e at stepped
 
-  module _ (from to : ℕ) (next : Cursor) (is : r ≡ Entry from to next) where
+  module _ (from to : ℕ) (next : Cursor) (is : r ≡ Some (from, to, next)) where
     pub next_left : left s at k c ≡ take (to - from) (drop from s) ∷ left s at k next
     unfolding Stepped
     next_left = (rw is at stepped).0
@@ -173,7 +172,7 @@ pub left_each : (s : List ℕ) (at k : ℕ) (c : Cursor) → Each (shape_of k) (
 unfolding left
 left_each s at k c = each_join (each_entries (shape_of k) _) (each_entries (shape_of k) _)
 
-module _ (s : List ℕ) (at k : ℕ) (c : Cursor) (r : Next) (stepped : Stepped s at k c r) (from to : ℕ) (next : Cursor) (is : r ≡ Entry from to next) where
+module _ (s : List ℕ) (at k : ℕ) (c : Cursor) (r : Option (ℕ × ℕ × Cursor)) (stepped : Stepped s at k c r) (from to : ℕ) (next : Cursor) (is : r ≡ Some (from, to, next)) where
   pub next_entry : entry.Entry (shape_of k) (take (to - from) (drop from s))
   next_entry = head_entry (rw (next_left s at k c r stepped from to next is) at (left_each s at k c))
 
@@ -208,12 +207,12 @@ pub all_begin : (good : List ℕ → Bool) (s : List ℕ) (at k : ℕ) (c : Curs
 all_begin good s at k c e = ap (λ (es : List (List ℕ)). all_of good es) (sym (begin_left s at k c e))
 
 module _ (good : List ℕ → Bool) (s : List ℕ) (at k : ℕ) (c : Cursor) (so : all_of good (entries_at s at k) ≡ all_of good (left s at k c))
-    (r : Next) (stepped : Stepped s at k c r) where
-  pub all_done : r ≡ Done → true ≡ all_of good (entries_at s at k)
+    (r : Option (ℕ × ℕ × Cursor)) (stepped : Stepped s at k c r) where
+  pub all_done : r ≡ None → true ≡ all_of good (entries_at s at k)
   unfolding all_of
   all_done e = sym (so ∙ ap (λ (es : List (List ℕ)). all_of good es) (next_done s at k c r stepped e))
 
-  module _ (from to : ℕ) (next : Cursor) (is : r ≡ Entry from to next) (q : Bool) (told : q ≡ good (take (to - from) (drop from s))) where
+  module _ (from to : ℕ) (next : Cursor) (is : r ≡ Some (from, to, next)) (q : Bool) (told : q ≡ good (take (to - from) (drop from s))) where
     all_here : all_of good (entries_at s at k) ≡ (good (take (to - from) (drop from s)) && all_of good (left s at k next))
     unfolding all_of
     all_here = so ∙ ap (λ (es : List (List ℕ)). all_of good es) (next_left s at k c r stepped from to next is)
@@ -230,12 +229,12 @@ pub through_begin : {S : Type 0} (step : S → List ℕ → S) (first : S) (s : 
 through_begin step first s at k c e = ap (λ (es : List (List ℕ)). through step first es) (sym (begin_left s at k c e))
 
 module _ {S : Type 0} (step : S → List ℕ → S) (first state : S) (s : List ℕ) (at k : ℕ) (c : Cursor)
-    (so : through step first (entries_at s at k) ≡ through step state (left s at k c)) (r : Next) (stepped : Stepped s at k c r) where
-  pub through_done : r ≡ Done → state ≡ through step first (entries_at s at k)
+    (so : through step first (entries_at s at k) ≡ through step state (left s at k c)) (r : Option (ℕ × ℕ × Cursor)) (stepped : Stepped s at k c r) where
+  pub through_done : r ≡ None → state ≡ through step first (entries_at s at k)
   unfolding through
   through_done e = sym (so ∙ ap (λ (es : List (List ℕ)). through step state es) (next_done s at k c r stepped e))
 
-  pub through_on : (from to : ℕ) (next : Cursor) → r ≡ Entry from to next → (t : S) → t ≡ step state (take (to - from) (drop from s))
+  pub through_on : (from to : ℕ) (next : Cursor) → r ≡ Some (from, to, next) → (t : S) → t ≡ step state (take (to - from) (drop from s))
       → through step first (entries_at s at k) ≡ through step t (left s at k next)
   unfolding through
   through_on from to next is t told =

@@ -6,6 +6,7 @@ use mathlib.Core.List.{List, [], ◌∷◌, ◌++◌, flatten}
 use mathlib.Core.Path.{◌≡◌, refl, sym, ap, ◌∙◌}
 use native.Mathlib.Omega.{arith}
 use lib.ListN.{length, take, drop, length-append, length-take, length-drop}
+use Rattle.std.specs.Prelude.{Option, Some, None}
 use Rattle.octets.proofs.Tests.{told_no, told_yes}
 use Rattle.iso8211.specs.Field.{count_at}
 use Rattle.entries.specs.declared.Shape.{Shape}
@@ -20,13 +21,11 @@ use Rattle.layout.specs.Layout.{shape_of}
 use Rattle.items.specs.Lists.{join_from, entries_at}
 use Rattle.items.specs.Cursors.{left, CursorIn, Settled, PartStepped}
 use Rattle.items.specs.declared.cursor.Cursor.{Cursor}
-use Rattle.items.specs.declared.cursor.Part.{Part}
-use Rattle.items.specs.declared.cursor.Part.TheVariants.{Bytes, Done}
 use Rattle.items.proofs.ListsLaws.{whole_none}
 use Rattle.items.proofs.CursorLaws.{spent_part, spent_left}
 
 -- ---- what a step answers, the cursor being settled at d
-pub part_none : (s : List ℕ) (at k : ℕ) (c d : Cursor) → Settled s at k c d → d.to ≤ d.from → PartStepped s at k c Done
+pub part_none : (s : List ℕ) (at k : ℕ) (c d : Cursor) → Settled s at k c d → d.to ≤ d.from → PartStepped s at k c None
 unfolding PartStepped
 part_none s at k c d settled h = settled.same ∙ settled.last h
 
@@ -36,7 +35,7 @@ unfolding left
 part_front s at k d = refl
 
 pub part_some : (s : List ℕ) (at k : ℕ) (c d : Cursor) → Settled s at k c d → d.from < d.to
-    → PartStepped s at k c (Bytes d.from d.to (record { field = d.field; from = d.to; to = d.to }))
+    → PartStepped s at k c (Some (d.from, d.to, record { field = d.field; from = d.to; to = d.to }))
 unfolding PartStepped
 part_some s at k c d settled h =
     let within = settled.inside.within in
@@ -56,12 +55,12 @@ filled_some [] bs e h = absurd (omega (arith, ap length e))
 filled_some (x ∷ es) bs e h = omega arith
 
 -- ---- what a caller learns of a step: r is its answer at the cursor c
-module _ (s : List ℕ) (at k : ℕ) (c : Cursor) (r : Part) (stepped : PartStepped s at k c r) where
-  pub part_done : r ≡ Done → left s at k c ≡ []
+module _ (s : List ℕ) (at k : ℕ) (c : Cursor) (r : Option (ℕ × ℕ × Cursor)) (stepped : PartStepped s at k c r) where
+  pub part_done : r ≡ None → left s at k c ≡ []
   unfolding PartStepped
   part_done e = rw e at stepped
 
-  module _ (from to : ℕ) (after : Cursor) (is : r ≡ Bytes from to after) where
+  module _ (from to : ℕ) (after : Cursor) (is : r ≡ Some (from, to, after)) where
     pub part_left : left s at k c ≡ entries_of (shape_of k) (take (to - from) (drop from s)) ++ left s at k after
     unfolding PartStepped
     part_left = (rw is at stepped).0
@@ -95,12 +94,12 @@ module _ (s : List ℕ) (at k : ℕ) (c : Cursor) (r : Part) (stepped : PartStep
 
 -- ---- turns of a rule on each entry, part by part
 module _ (good : List ℕ → Bool) (s : List ℕ) (at k : ℕ) (c : Cursor) (so : all_of good (entries_at s at k) ≡ all_of good (left s at k c))
-    (r : Part) (stepped : PartStepped s at k c r) where
-  pub parts_done : r ≡ Done → true ≡ all_of good (entries_at s at k)
+    (r : Option (ℕ × ℕ × Cursor)) (stepped : PartStepped s at k c r) where
+  pub parts_done : r ≡ None → true ≡ all_of good (entries_at s at k)
   unfolding all_of
   parts_done e = sym (so ∙ ap (λ (es : List (List ℕ)). all_of good es) (part_done s at k c r stepped e))
 
-  module _ (from to : ℕ) (after : Cursor) (is : r ≡ Bytes from to after) (q : Bool)
+  module _ (from to : ℕ) (after : Cursor) (is : r ≡ Some (from, to, after)) (q : Bool)
       (told : q ≡ all_of good (entries_of (shape_of k) (take (to - from) (drop from s)))) where
     parts_here : all_of good (entries_at s at k) ≡ (all_of good (entries_of (shape_of k) (take (to - from) (drop from s))) && all_of good (left s at k after))
     parts_here =
@@ -131,10 +130,6 @@ module _ (good : List ℕ → Bool) (n : ℕ) (b : List ℕ) (at : ℕ)
   module _ (some : 8 ≤ n) (more : n ≤ length b - at) (r : Bool) (told : r ≡ good (take (at + n - at) (drop at b))) where
     stride_some : n ≡ 0 → ⊥
     stride_some e = omega arith
-
-    pub stride_no : not r ≡ true → false ≡ all_of good (entries_of (record { fixed = n; unit = 0 }) b)
-    stride_no =
-        walk.all_no (record { fixed = n; unit = 0 }) good b at so n (len_bare b at (record { fixed = n; unit = 0 }) more refl) stride_some r told
 
     pub stride_on : not r ≡ false
         → all_of good (entries_of (record { fixed = n; unit = 0 }) b) ≡ all_of good (entries_of (record { fixed = n; unit = 0 }) (drop (at + n) b))

@@ -1,14 +1,14 @@
 -- How a record of a framed file comes to be known as laid out, and as a vector's or a feature's. Assumes nothing.
-use Prim.Native.Nat.{ℕ, ◌+◌, ◌-◌, ◌≤◌, ◌<◌}
+use Prim.Native.Nat.{ℕ, ◌+◌, ◌≤◌, ◌<◌}
 use mathlib.Core.Bool.{Bool, true}
 use mathlib.Core.List.{List}
 use mathlib.Core.Logic.{⊎_elim, ◌⊎◌, inl, inr}
 use mathlib.Core.Path.{◌≡◌, sym, ap, ◌∙◌}
 use native.Mathlib.Omega.{arith}
 use lib.ListN.{length}
+use Rattle.std.specs.Prelude.{Ok}
 use Rattle.iso8211.specs.Field.{count_at, field_at}
 use Rattle.iso8211.specs.File.{frame_of, record_at}
-use Rattle.iso8211.specs.declared.file.Framed.TheVariants.{Records}
 use Rattle.table.specs.Table.{VRID, FRID, FOID}
 use Rattle.layout.specs.Layout.{filled}
 use Rattle.layout.specs.Record.{kind_at, content_at}
@@ -19,7 +19,7 @@ use Rattle.iso8211.proofs.Promise.{record_in, fields_in}
 use Rattle.layout.proofs.Promise.{content_length, laid_feature, full_vrid, full_frid, full_foid}
 
 -- ---- a record that is laid out
-pub laid_out : (s : List ℕ) (n k at : ℕ) → frame_of s ≡ Records n → k < n → at ≡ record_at s k → 2 ≤ count_at s at
+pub laid_out : (s : List ℕ) (n k at : ℕ) → frame_of s ≡ Ok n → k < n → at ≡ record_at s k → 2 ≤ count_at s at
     → ((j : ℕ) → j < count_at s at → filled (kind_at s at j) (content_at s at j) ≡ true) → LaidOut s at
 laid_out s n k at v h e two full = record {
   inside = fields_in (record_in s n k at v h e);
@@ -28,7 +28,7 @@ laid_out s n k at v h e two full = record {
 }
 
 pub laid_record : {update : Bool} {stage : ℕ} {marks s : List ℕ} {at : ℕ} (n k : ℕ) → Laid update stage marks s at
-    → frame_of s ≡ Records n → k < n → at ≡ record_at s k → LaidOut s at
+    → frame_of s ≡ Ok n → k < n → at ≡ record_at s k → LaidOut s at
 laid_record {update} {stage} {marks} {s} {at} n k laid v h e = laid_out s n k at v h e laid.two laid.full
 
 -- a vector's RCNM is not that of a feature

@@ -12,7 +12,7 @@ pub mod shape;
 pub mod step;
 pub mod word;
 
-pub use cursor::{Cursor, Next, Part};
+pub use cursor::Cursor;
 
 // Before the first entry of any list.
 pub use cursor::begin;

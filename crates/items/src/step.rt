@@ -2,28 +2,27 @@
 ghost use Rattle.items.specs.Premises.{Listed};
 ghost use Rattle.items.specs.Cursors.{CursorIn, Settled, Stepped, PartStepped};
 
-use crate::cursor::{Cursor, Next, Part};
+use crate::cursor::Cursor;
 use crate::shape::shape_of;
 use entries::entry_len;
-use iso8211::field::{Head, field_at, tag_of};
+use iso8211::field::Record;
 use table::kind_of;
 
 // The same place with bytes before it: where those of the cursor are used up, they are those of the
 // next field of kind k, if there is one.
-fn settled(s: &[u8], at: usize, h: Head, k: usize, c: Cursor) -> Cursor
-    requires { Listed s.now at h k × CursorIn s.now at k c }
-    ensures { Settled s.now at k c result }
+fn settled(r: &Record, k: usize, c: Cursor) -> Cursor
+    requires { Listed r.now.file.now r.now.at r.now.head k × CursorIn r.now.file.now r.now.at k c }
+    ensures { Settled r.now.file.now r.now.at k c result }
 {
     let from = c.from;
     let to = c.to;
     if from < to {
         return c;
     }
-    let count = h.count;
-    let mut field = c.field;
-    while field < count {
-        if kind_of(tag_of(s, at, h, field)) == k {
-            let f = field_at(s, at, h, field);
+    let count = r.head.count;
+    for field in c.field..count {
+        if kind_of(r.tag(field)) == k {
+            let f = r.field(field);
             let start = f.start;
             return Cursor {
                 field: field + 1,
@@ -31,59 +30,52 @@ fn settled(s: &[u8], at: usize, h: Head, k: usize, c: Cursor) -> Cursor
                 to: start + (f.length - 1),
             };
         }
-        field += 1;
     }
     Cursor {
-        field,
+        field: count,
         from: to,
         to,
     }
 }
 
-// The next entry of the list of kind k.
-pub fn next(s: &[u8], at: usize, h: Head, k: usize, c: Cursor) -> Next
-    requires { Listed s.now at h k × CursorIn s.now at k c }
-    ensures { Stepped s.now at k c result }
+// The next entry of the list of kind k, if there is one: from where to where it stands in the file,
+// and the cursor behind it.
+pub fn next(r: &Record, k: usize, c: Cursor) -> Option<(usize, usize, Cursor)>
+    requires { Listed r.now.file.now r.now.at r.now.head k × CursorIn r.now.file.now r.now.at k c }
+    ensures { Stepped r.now.file.now r.now.at k c result }
 {
-    let d = settled(s, at, h, k, c);
+    let d = settled(r, k, c);
     let from = d.from;
     let to = d.to;
     if to <= from {
-        return Next::Done;
+        return None;
     }
-    let end = from + entry_len(&s[from..to], shape_of(k));
-    let field = d.field;
-    Next::Entry(
-        from,
-        end,
-        Cursor {
-            field,
-            from: end,
-            to,
-        },
-    )
+    let end = from + entry_len(&r.file[from..to], shape_of(k));
+    let behind = Cursor {
+        field: d.field,
+        from: end,
+        to,
+    };
+    Some((from, end, behind))
 }
 
-// The next entries of the list of kind k that stand together. A walk over entries of one length goes
-// through them by itself, and looks for a field only once a part.
-pub fn part(s: &[u8], at: usize, h: Head, k: usize, c: Cursor) -> Part
-    requires { Listed s.now at h k × CursorIn s.now at k c }
-    ensures { PartStepped s.now at k c result }
+// The next entries of the list of kind k that stand together, if there are any: from where to where
+// they stand in the file, and the cursor behind them. A walk over entries of one length goes through
+// them by itself, and looks for a field only once a part.
+pub fn part(r: &Record, k: usize, c: Cursor) -> Option<(usize, usize, Cursor)>
+    requires { Listed r.now.file.now r.now.at r.now.head k × CursorIn r.now.file.now r.now.at k c }
+    ensures { PartStepped r.now.file.now r.now.at k c result }
 {
-    let d = settled(s, at, h, k, c);
+    let d = settled(r, k, c);
     let from = d.from;
     let to = d.to;
     if to <= from {
-        return Part::Done;
+        return None;
     }
-    let field = d.field;
-    Part::Bytes(
-        from,
+    let behind = Cursor {
+        field: d.field,
+        from: to,
         to,
-        Cursor {
-            field,
-            from: to,
-            to,
-        },
-    )
+    };
+    Some((from, to, behind))
 }

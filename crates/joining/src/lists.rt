@@ -2,52 +2,49 @@
 ghost use Rattle.std.specs.Prelude.{◌+◌, ◌≤◌, ◌<◌, ◌≡◌, length};
 ghost use Rattle.octets.specs.Area.{Wrote};
 ghost use Rattle.iso8211.specs.Field.{count_at, field_at};
-ghost use Rattle.iso8211.specs.Premises.{HeadOf};
 ghost use Rattle.items.specs.Premises.{LaidOut};
 ghost use Rattle.items.specs.Lists.{part_at, list_at};
 ghost use Rattle.records.specs.Written.{body_of};
 ghost use Rattle.itemrows.specs.Joined.{field_piece, field_pieces, Totals};
 
-use iso8211::field::{Field, Head, field_at, field_on, tag_of};
+use iso8211::field::{Field, Record};
 use octets::area::copy;
 use octets::number::put1;
 use table::kind_of;
 
 // How many bytes field j brings to the list of kind k.
-fn part_size(s: &[u8], at: usize, h: Head, k: usize, j: usize) -> usize
-    requires { LaidOut s.now at × HeadOf s.now at h × (j < count_at s.now at) }
-    ensures { (result ≡ length (part_at s.now at k j)) × (result ≤ 300000) }
+fn part_size(r: &Record, k: usize, j: usize) -> usize
+    requires { LaidOut r.now.file.now r.now.at × (j < count_at r.now.file.now r.now.at) }
+    ensures { (result ≡ length (part_at r.now.file.now r.now.at k j)) × (result ≤ 300000) }
 {
-    if kind_of(tag_of(s, at, h, j)) == k {
-        let f = field_at(s, at, h, j);
+    if kind_of(r.tag(j)) == k {
+        let f = r.field(j);
         return f.length - 1;
     }
     0
 }
 
 // How many bytes the list of kind k has.
-pub fn total(s: &[u8], at: usize, h: Head, k: usize) -> u32
-    requires { LaidOut s.now at × HeadOf s.now at h }
-    ensures { (result ≡ length (list_at s.now at k)) × (result ≤ 300000) }
+pub fn total(r: &Record, k: usize) -> u32
+    requires { LaidOut r.now.file.now r.now.at }
+    ensures { (result ≡ length (list_at r.now.file.now r.now.at k)) × (result ≤ 300000) }
 {
-    let fields = h.count;
+    let fields = r.head.count;
     let mut n: usize = 0;
-    let mut j: usize = 0;
-    while j < fields {
-        n += part_size(s, at, h, k, j);
-        j += 1;
+    for j in 0..fields {
+        n += part_size(r, k, j);
     }
     n as u32
 }
 
-pub fn totals(s: &[u8], at: usize, h: Head, kinds: [usize; 4]) -> [u32; 4]
-    requires { LaidOut s.now at × HeadOf s.now at h }
-    ensures { Totals s.now at kinds result }
+pub fn totals(r: &Record, kinds: [usize; 4]) -> [u32; 4]
+    requires { LaidOut r.now.file.now r.now.at }
+    ensures { Totals r.now.file.now r.now.at kinds result }
 {
-    let a = total(s, at, h, kinds[0]);
-    let b = total(s, at, h, kinds[1]);
-    let c = total(s, at, h, kinds[2]);
-    let d = total(s, at, h, kinds[3]);
+    let a = total(r, kinds[0]);
+    let b = total(r, kinds[1]);
+    let c = total(r, kinds[2]);
+    let d = total(r, kinds[3]);
     [a, b, c, d]
 }
 
@@ -74,55 +71,49 @@ fn put_part(
 
 // The bytes of the list of kind k, copied. Each field is read where the one before it ends, so that
 // no position is.
-pub fn put_list(s: &[u8], at: usize, h: Head, k: usize, out: &mut [u8], place: usize) -> usize
-    requires { LaidOut s.now at × HeadOf s.now at h × (place + length (list_at s.now at k) ≤ length out.old) }
-    ensures { Wrote out.old place (list_at s.now at k) out.new result }
+pub fn put_list(r: &Record, k: usize, out: &mut [u8], place: usize) -> usize
+    requires { LaidOut r.now.file.now r.now.at × (place + length (list_at r.now.file.now r.now.at k) ≤ length out.old) }
+    ensures { Wrote out.old place (list_at r.now.file.now r.now.at k) out.new result }
 {
-    let fields = h.count;
-    let mut due = at + h.base;
+    let fields = r.head.count;
+    let mut due = r.at + r.head.base;
     let mut next = place;
-    let mut j: usize = 0;
-    while j < fields {
-        let f = field_on(s, at, h, j, due);
+    for j in 0..fields {
+        let f = r.field_on(j, due);
         due = f.start + f.length;
-        next = put_part(s, at, k, j, f, out, next);
-        j += 1;
+        next = put_part(r.file, r.at, k, j, f, out, next);
     }
     next
 }
 
 // The list of kind k, t bytes, as one field with its 1E; an empty list as none.
-fn put_field(s: &[u8], at: usize, h: Head, k: usize, t: u32, out: &mut [u8], place: usize) -> usize
-    requires { LaidOut s.now at × HeadOf s.now at h × (t ≡ length (list_at s.now at k))
-        × (place + length (body_of (field_piece k (list_at s.now at k))) ≤ length out.old) }
-    ensures { Wrote out.old place (body_of (field_piece k (list_at s.now at k))) out.new result }
+fn put_field(r: &Record, k: usize, t: u32, out: &mut [u8], place: usize) -> usize
+    requires { LaidOut r.now.file.now r.now.at × (t ≡ length (list_at r.now.file.now r.now.at k))
+        × (place + length (body_of (field_piece k (list_at r.now.file.now r.now.at k))) ≤ length out.old) }
+    ensures { Wrote out.old place (body_of (field_piece k (list_at r.now.file.now r.now.at k))) out.new result }
 {
     if t == 0 {
         return place;
     }
-    let end = put_list(s, at, h, k, out, place);
+    let end = put_list(r, k, out, place);
     put1(out, end, 30)
 }
 
 // The four lists, one field each.
 pub fn put_lists(
-    s: &[u8],
-    at: usize,
-    h: Head,
+    r: &Record,
     kinds: [usize; 4],
     totals: [u32; 4],
     out: &mut [u8],
     place: usize,
 ) -> usize
-    requires { LaidOut s.now at × HeadOf s.now at h × Totals s.now at kinds totals
-        × (place + length (body_of (field_pieces kinds (list_at s.now at))) ≤ length out.old) }
-    ensures { Wrote out.old place (body_of (field_pieces kinds (list_at s.now at))) out.new result }
+    requires { LaidOut r.now.file.now r.now.at × Totals r.now.file.now r.now.at kinds totals
+        × (place + length (body_of (field_pieces kinds (list_at r.now.file.now r.now.at))) ≤ length out.old) }
+    ensures { Wrote out.old place (body_of (field_pieces kinds (list_at r.now.file.now r.now.at))) out.new result }
 {
     let mut next = place;
-    let mut i: usize = 0;
-    while i < 4 {
-        next = put_field(s, at, h, kinds[i], totals[i], out, next);
-        i += 1;
+    for (k, t) in kinds.iter().zip(&totals) {
+        next = put_field(r, *k, *t, out, next);
     }
     next
 }

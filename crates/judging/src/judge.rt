@@ -1,21 +1,22 @@
 // Judge: a cell; answer only.
-ghost use Rattle.std.specs.Prelude.{◌≡◌, length, replicate};
+ghost use Rattle.std.specs.Prelude.{◌≡◌, length, replicate, Ok};
 ghost use Rattle.names.specs.Premises.{HeldIn};
+ghost use Rattle.answers.specs.Answer.{outcome};
 ghost use Rattle.judging.specs.Judge.{cell_verdict, judge_of};
 ghost use Rattle.readonce.specs.Once.{CellRead};
 
-use answers::answer::filed;
+use answers::answer::answer_of;
 use answers::{Answer, Refusal};
 use octets::area::clear;
-use readonce::cell::{Read, cell_read};
+use readonce::cell::cell_read;
 use topology::topology_fault;
 
 // The verdict on a cell of n records that has none of the codes 1 to 8: codes 17 to 19. Where it has
 // none of these either, the words of its items, in held order, are still in the work area.
-pub fn cell_verdict(cell: &[u8], n: usize, work: &mut [u8]) -> Refusal
+pub fn cell_verdict(cell: &[u8], n: usize, work: &mut [u8]) -> Result<(), Refusal>
     requires { CellRead cell.now n work.old }
-    ensures value { result ≡ cell_verdict cell.now n }
-    ensures held_in { result.code ≡ 0 → HeldIn cell.now n work.new }
+    ensures value { result ≡ outcome (cell_verdict cell.now n) }
+    ensures held_in { result ≡ Ok tt → HeldIn cell.now n work.new }
 {
     topology_fault(cell, n, work)
 }
@@ -24,10 +25,9 @@ pub fn cell_verdict(cell: &[u8], n: usize, work: &mut [u8]) -> Refusal
 fn judged(cell: &[u8], work: &mut [u8]) -> Answer
     ensures { result ≡ judge_of cell.now (length work.old) }
 {
-    let read = cell_read(cell, work);
-    match read {
-        Read::Refused(a) => a,
-        Read::All(n) => filed(1, cell_verdict(cell, n, work)),
+    match cell_read(cell, work) {
+        Ok(n) => answer_of(1, cell_verdict(cell, n, work)),
+        Err(a) => a,
     }
 }
 

@@ -9,6 +9,7 @@ use native.Mathlib.Omega.{arith}
 use lib.ListN.{length, get_or, length-append, get_or-eq_default}
 use lib.Dec.{eqb, ltb}
 use borrow.Author.Tests.{eq-eqb, ne_eqb, eqb-true, eqb-false, ltb-true, not-true}
+use Rattle.std.specs.Prelude.{Option}
 use Rattle.octets.specs.Area.{Wrote}
 use Rattle.octets.proofs.AreaLaws.{wrote_join, wrote_as, wrote_length}
 use Rattle.octets.proofs.Cases.{true_or_false, le_or_lt}
@@ -189,7 +190,7 @@ module _ {held brought : List ℕ} (two : Labelled held brought) where
     pub fresh_next : at + (length held + length brought) ≤ length a → m + length (flatten (new_by t (entries_of attribute brought))) ≤ length b
     fresh_next h = rw (new_fresh two ix p) (omega (arith, both_bytes, w.end, wrote_length w))
 
-    pub attributes_put : {c : List ℕ} {r : ℕ} → ListPut (found_by t (entries_of attribute brought)) (flatten (new_by t (entries_of attribute brought))) b m c r
+    pub attributes_put : {c : List ℕ} {r : Option ℕ} → ListPut (found_by t (entries_of attribute brought)) (flatten (new_by t (entries_of attribute brought))) b m c r
         → ListPut (findable label_of is_removal (entries_of attribute held) (entries_of attribute brought))
         (flatten (one_pass label_of is_removal (entries_of attribute held) (entries_of attribute brought))) a at c r
     unfolding one_pass
@@ -200,7 +201,7 @@ module _ {held brought : List ℕ} (two : Labelled held brought) where
         let bytes : flatten (worked label_of is_removal es new) ++ flatten (new_by t new) ≡ flatten (worked label_of is_removal es new ++ fresh label_of es new) =
         rw (new_fresh two ix p) (sym (flatten_append (worked label_of is_removal es new) (fresh label_of es new))) in
         record {
-          no = λ f. q.no (same ∙ f);
-          yes = λ y. wrote_as _ bytes (wrote_join w (q.yes (same ∙ y)));
+          no = λ e. sym same ∙ q.no e;
+          yes = λ e is. let y = q.yes e is in (sym same ∙ y.0, wrote_as _ bytes (wrote_join w y.1));
           size = q.size ∙ wrote_length w;
         }

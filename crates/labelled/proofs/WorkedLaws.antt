@@ -10,6 +10,8 @@ use lib.ListN.{length, take, drop, get_or, length-append, length-drop}
 use lib.Seq.{length-take-le}
 use lib.Dec.{eqb}
 use borrow.Author.Tests.{eq-eqb, ne_eqb, not-true, not-false}
+use Rattle.std.specs.Prelude.{Option}
+use Rattle.std.specs.Bool.{then_some}
 use Rattle.octets.specs.Area.{Wrote, Going}
 use Rattle.octets.proofs.AreaLaws.{wrote_as, wrote_none, going_step, going_end, going_room, going_length}
 use Rattle.octets.proofs.Cases.{true_or_false}
@@ -115,12 +117,13 @@ module _ (bs before : List ℕ) (at n : ℕ) (size : n ≡ entry_len attribute (
 
   module _ (z : n ≡ 0) (found : Bool) (so : found_by before (entries_of attribute bs) ≡ (found && found_by before (entries_of attribute (drop at bs))))
       {a b : List ℕ} {start next : ℕ} {all : List ℕ} (g : Going a start all b next (flatten (new_by before (entries_of attribute (drop at bs))))) where
-    pub fresh_lost : not found ≡ true → ListPut (found_by before (entries_of attribute bs)) all a start b 0
-    fresh_lost h = put_no _ _ _ (found_end found z so ∙ not-true found h) (going_length g)
-
-    pub fresh_end : not found ≡ false → ListPut (found_by before (entries_of attribute bs)) all a start b next
+    pub fresh_put : {r : Option ℕ} → r ≡ then_some found next → ListPut (found_by before (entries_of attribute bs)) all a start b r
     unfolding new_by flatten
-    fresh_end h = put_yes (found_end found z so ∙ not-false found h) (going_end g (rw (walk_end attribute bs at n size z)))
+    fresh_put e =
+        ⊎_elim
+        (λ (t : found ≡ true). rw (e, t) (put_yes (found_end found z so ∙ t) (going_end g (rw (walk_end attribute bs at n size z)))))
+        (λ (f : found ≡ false). rw (e, f) (put_no _ _ _ (found_end found z so ∙ f) (going_length g)))
+        (true_or_false found)
 
   module _ (some : n ≡ 0 → ⊥) {t : List ℕ} (p : Passing cleared bs before t at) (label : ℕ) (told : label ≡ label_of (take n (drop at bs))) (small : label < 65536) where
     number : get_or t label 0 ≡ get_or before (label_of (take n (drop at bs))) 0

@@ -14,6 +14,15 @@ pub record Labelled (held brought : List ℕ) : Type 0 where
   pub short : length held ≤ 300000
   pub short_new : length brought ≤ 300000
 
+-- at `at` of a list of attributes stands an entry of n bytes with this label
+pub record LabelAt (bs : List ℕ) (at n label : ℕ) : Type 0 where
+  pub size : n ≡ entry_len attribute (drop at bs)
+  pub some : n ≡ 0 → ⊥
+  pub long : 3 ≤ n
+  pub within : at + n ≤ length bs
+  pub told : label ≡ label_of (take n (drop at bs))
+  pub low : label < 65536
+
 -- a table of zeros
 pub record Blank (t : List ℕ) : Type 0 where
   pub size : length t ≡ 65536

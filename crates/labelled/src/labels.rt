@@ -1,13 +1,13 @@
 // A list of attributes edited by their labels, in time that grows with both lists together: a table
 // with a number for each label tells where the update has the label.
-ghost use Rattle.std.specs.Prelude.{◌+◌, ◌≤◌, ◌<◌, true, ◌&&◌, ◌≡◌, length, take, drop};
+ghost use Rattle.std.specs.Prelude.{◌+◌, ◌≤◌, ◌<◌, true, ◌&&◌, ◌≡◌, MatchOption, length, take, drop};
 ghost use mathlib.Core.List.{flatten};
 ghost use Rattle.octets.specs.Area.{Wrote};
 ghost use Rattle.entries.specs.Entries.{entry_len, entries_of};
 ghost use Rattle.attributes.specs.Attributes.{attribute, label_of, is_removal};
 ghost use Rattle.edits.specs.OnePass.{apart, instead, worked, one_pass, findable};
 ghost use Rattle.splice.specs.Put.{ListPut};
-ghost use Rattle.labelled.specs.Table.{Labelled, Blank, Indexed, Passed, used, cleared, entry_at, unremoved, Facing, new_of, new_by, found_of, found_by};
+ghost use Rattle.labelled.specs.Table.{LabelAt, Labelled, Blank, Indexed, Passed, used, cleared, entry_at, unremoved, Facing, new_of, new_by, found_of, found_by};
 
 use attributes::{is_removal, label_at};
 use entries::{Shape, entry_len_at};
@@ -17,25 +17,32 @@ use table::sizes;
 // The number of a label that both lists have: above all places of the update's list.
 const USED: u32 = 4294967295;
 
+// The length of the entry at `at` and its label; nothing where the list ends.
+fn labelled_at(list: &[u8], at: usize) -> Option<(usize, usize)>
+    requires { at ≤ length list.now }
+    ensures { MatchOption result (0 ≡ entry_len attribute (drop at list.now)) (λ p. LabelAt list.now at p.0 p.1) }
+{
+    let n = entry_len_at(
+        list,
+        at,
+        Shape {
+            fixed: sizes::ATTV,
+            unit: 1,
+        },
+    );
+    if n == 0 {
+        return None;
+    }
+    Some((n, label_at(list, at, n)))
+}
+
 // For each label that the update brings, 1 and its entry's place.
 fn index(brought: &[u8], table: &mut [u32])
     requires { (length brought.now ≤ 300000) × Blank table.old }
     ensures { Indexed brought.now table.new }
 {
     let mut at: usize = 0;
-    loop {
-        let n = entry_len_at(
-            brought,
-            at,
-            Shape {
-                fixed: sizes::ATTV,
-                unit: 1,
-            },
-        );
-        if n == 0 {
-            return;
-        }
-        let label = label_at(brought, at, n);
+    while let Some((n, label)) = labelled_at(brought, at) {
         table[label] = (at + 1) as u32;
         at += n;
     }
@@ -102,24 +109,13 @@ fn put_worked(held: &[u8], brought: &[u8], table: &mut [u32], out: &mut [u8], at
 {
     let mut i: usize = 0;
     let mut next = at;
-    loop {
-        let n = entry_len_at(
-            held,
-            i,
-            Shape {
-                fixed: sizes::ATTV,
-                unit: 1,
-            },
-        );
-        if n == 0 {
-            return next;
-        }
-        let label = label_at(held, i, n);
+    while let Some((n, label)) = labelled_at(held, i) {
         let p = table[label];
         table[label] = used_of(p);
         next = put_instead(held, i, n, brought, p, out, next);
         i += n;
     }
+    next
 }
 
 // The entry of n bytes at `at`, where it is new: where its label is not marked.
@@ -148,8 +144,8 @@ fn still_found(found: bool, brought: &[u8], at: usize, n: usize, p: u32) -> bool
 }
 
 // The entries that are new, in the update's order, and 0 for the number of each label; the answer is
-// where they end, or 0 where a removal has found nothing.
-fn put_fresh(brought: &[u8], table: &mut [u32], out: &mut [u8], at: usize) -> usize
+// where they end, none where a removal has found nothing.
+fn put_fresh(brought: &[u8], table: &mut [u32], out: &mut [u8], at: usize) -> Option<usize>
     requires { (apart label_of (entries_of attribute brought.now) ≡ true) × (length table.old ≡ 65536)
         × (at + length (flatten (new_by table.old (entries_of attribute brought.now))) ≤ length out.old) }
     ensures { ListPut (found_by table.old (entries_of attribute brought.now))
@@ -159,31 +155,17 @@ fn put_fresh(brought: &[u8], table: &mut [u32], out: &mut [u8], at: usize) -> us
     let mut i: usize = 0;
     let mut next = at;
     let mut found = true;
-    loop {
-        let n = entry_len_at(
-            brought,
-            i,
-            Shape {
-                fixed: sizes::ATTV,
-                unit: 1,
-            },
-        );
-        if n == 0 {
-            if !found {
-                return 0;
-            }
-            return next;
-        }
-        let label = label_at(brought, i, n);
+    while let Some((n, label)) = labelled_at(brought, i) {
         let p = table[label];
         table[label] = 0;
         found = still_found(found, brought, i, n, p);
         next = put_new(brought, i, n, p, out, next);
         i += n;
     }
+    found.then_some(next)
 }
 
-// The attributes edited by their labels, written from `at` on: where they end, or 0 where a removal
+// The attributes edited by their labels, written from `at` on: where they end; none where a removal
 // finds nothing. The table has a number for each label, and is zero before and after.
 pub fn put_attributes(
     held: &[u8],
@@ -191,7 +173,7 @@ pub fn put_attributes(
     table: &mut [u32],
     out: &mut [u8],
     at: usize,
-) -> usize
+) -> Option<usize>
     requires { Labelled held.now brought.now × Blank table.old × (at + (length held.now + length brought.now) ≤ length out.old) }
     ensures { ListPut (findable label_of is_removal (entries_of attribute held.now) (entries_of attribute brought.now))
         (flatten (one_pass label_of is_removal (entries_of attribute held.now) (entries_of attribute brought.now))) out.old at out.new result

@@ -4,6 +4,6 @@
 
 pub mod labels;
 
-// The attributes edited by their labels, written from `at` on: where they end, or 0 where a
+// The attributes edited by their labels, written from `at` on: where they end; none where a
 // removal finds nothing.
 pub use labels::put_attributes;

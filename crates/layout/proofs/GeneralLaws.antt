@@ -4,6 +4,7 @@ use mathlib.Core.List.{List}
 use mathlib.Core.Path.{◌≡◌, ap}
 use native.Mathlib.Omega.{arith}
 use lib.ListN.{length}
+use Rattle.std.specs.Prelude.{Ok}
 use Rattle.headvalues.specs.Dspm.{most_comf}
 use Rattle.octets.specs.Number.{byte_at}
 use Rattle.octets.specs.Premises.{Reads}
@@ -12,7 +13,6 @@ use Rattle.iso8211.specs.Field.{count_at, field_at}
 use Rattle.iso8211.specs.Premises.{FramedAt}
 use Rattle.iso8211.specs.declared.field.Field.{Field}
 use Rattle.iso8211.specs.File.{frame_of, record_at}
-use Rattle.iso8211.specs.declared.file.Framed.TheVariants.{Records}
 use Rattle.iso8211.proofs.Promise.{framed_at, at_start, at_on}
 use Rattle.layout.specs.General.{aall_at, nall_at, comf_at}
 use Rattle.layout.specs.Premises.{LevelsIn, DspmThere}
@@ -34,7 +34,7 @@ unfolding nall_at
 nall_told s at i e = rw e
 
 -- ---- the first two records, then DSPM
-module _ (s : List ℕ) (n : ℕ) (framed : frame_of s ≡ Records n) (three : 3 ≤ n) where
+module _ (s : List ℕ) (n : ℕ) (framed : frame_of s ≡ Ok n) (three : 3 ≤ n) where
   pub comf_first : FramedAt s 0
   comf_first = framed_at s n 0 0 framed (omega arith) (at_start s)
 

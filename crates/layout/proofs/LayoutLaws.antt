@@ -12,6 +12,9 @@ use Rattle.octets.proofs.Tests.{told_no, told_yes, then_same, else_same}
 use Rattle.iso8211.specs.Record.{end_of}
 use Rattle.iso8211.specs.Field.{count_at, field_at, FieldIn}
 use Rattle.iso8211.specs.Premises.{RecordIn}
+use Rattle.std.specs.Prelude.{Ok, Err}
+use Rattle.values.specs.Fault.{told_place}
+use Rattle.values.proofs.FaultLaws.{place_ok, place_err}
 use Rattle.entries.specs.Entries.{whole_good}
 use Rattle.iso8211.specs.declared.field.Field.{Field}
 use Rattle.table.specs.Table.{row_of, kind_of, kind_row}
@@ -87,8 +90,12 @@ module _ (update : Bool) (stage : ℕ) (marks s : List ℕ) (at j prev count : �
         ≡ cond (field_laid update stage marks s prev f) (laid_from (count_at s at - (j + 1)) update stage marks s at (j + 1) (kind_of f.tag)) f.start
     opened = rw read (so ∙ laid_next (count_at s at - j) (count_at s at - (j + 1)) update stage marks s at j prev (omega arith))
 
-    pub turn_wrong : not r ≡ true → f.start ≡ layout_fault update stage marks s at
-    turn_wrong h = sym (opened ∙ else_same _ _ _ (told_no r _ told h))
+    pub turn_wrong : RecordIn s at → not r ≡ true → Err (record { at = f.start }) ≡ told_place (layout_fault update stage marks s at)
+    turn_wrong known h =
+        let i = field_known s at j count known all more f read in
+        let after = i.after in
+        let first = known.framed.headed.low in
+        place_err _ (opened ∙ else_same _ _ _ (told_no r _ told h)) (λ z. omega arith)
 
     pub turn_on : (k : ℕ) → k ≡ kind_of f.tag → not r ≡ false → layout_fault update stage marks s at ≡ laid_from (count_at s at - (j + 1)) update stage marks s at (j + 1) k
     turn_on k kind h = rw kind (opened ∙ then_same _ _ _ (told_yes r _ told h))
@@ -98,8 +105,14 @@ module _ (update : Bool) (stage : ℕ) (marks s : List ℕ) (at j prev count : �
     closed : layout_fault update stage marks s at ≡ cond (may_end prev) 0 (end_of s at)
     closed = so ∙ laid_end (count_at s at - j) update stage marks s at j prev (omega arith)
 
-    pub end_missing : (e : ℕ) → e ≡ end_of s at → not r ≡ true → e ≡ layout_fault update stage marks s at
-    end_missing e end h = rw end (sym (closed ∙ else_same _ _ _ (told_no r _ told h)))
+    pub end_missing : (e : ℕ) → RecordIn s at → e ≡ end_of s at → not r ≡ true → Err (record { at = e }) ≡ told_place (layout_fault update stage marks s at)
+    end_missing e known end h =
+        let low = known.framed.headed.low in
+        let high = known.framed.high in
+        place_err _ (closed ∙ else_same _ _ _ (told_no r _ told h) ∙ sym end) (λ z. omega arith)
 
     pub end_good_lem : not r ≡ false → 0 ≡ layout_fault update stage marks s at
     end_good_lem h = sym (closed ∙ then_same _ _ _ (told_yes r _ told h))
+
+    pub end_well : not r ≡ false → Ok tt ≡ told_place (layout_fault update stage marks s at)
+    end_well h = place_ok (sym (end_good_lem h))

@@ -1,14 +1,13 @@
 // What is read of the general records: the levels of DSSI, and COMF of DSPM, by which a cell's coordinates are
 // multiplied.
-ghost use Rattle.std.specs.Prelude.{◌+◌, ◌≤◌, ◌≡◌, length};
+ghost use Rattle.std.specs.Prelude.{◌+◌, ◌≤◌, ◌≡◌, length, Ok};
 ghost use Rattle.headvalues.specs.Dspm.{most_comf};
 ghost use Rattle.iso8211.specs.Field.{field_at};
 ghost use Rattle.iso8211.specs.File.{frame_of, record_at};
-ghost use Rattle.iso8211.specs.declared.file.Framed.TheVariants.{Records};
 ghost use Rattle.layout.specs.General.{aall_at, nall_at, comf_at};
 ghost use Rattle.layout.specs.Premises.{LevelsIn, DspmThere};
 
-use iso8211::field::{field_at, head_of, record_end};
+use iso8211::field::{Record, head_of, record_end};
 use octets::number::get4;
 use table::offsets;
 
@@ -24,7 +23,12 @@ fn dssi_at(s: &[u8], at: usize) -> usize
     requires { LevelsIn s.now at }
     ensures { (result ≡ (field_at s.now at 2).start) × (result + 3 ≤ length s.now) }
 {
-    let f = field_at(s, at, head_of(s, at), 2);
+    let f = Record {
+        file: s,
+        at,
+        head: head_of(s, at),
+    }
+    .field(2);
     f.start
 }
 
@@ -42,18 +46,23 @@ pub fn levels_at(s: &[u8], at: usize) -> Levels
 
 // Where DSPM starts, in a cell of n records.
 fn dspm_at(s: &[u8], n: usize) -> usize
-    requires { DspmThere s.now × (frame_of s.now ≡ Records n) × (3 ≤ n) }
+    requires { DspmThere s.now × (frame_of s.now ≡ Ok n) × (3 ≤ n) }
     ensures { (result ≡ (field_at s.now (record_at s.now 2) 1).start) × (result + 20 ≤ length s.now) }
 {
     let first = record_end(s, 0);
     let at = record_end(s, first);
-    let f = field_at(s, at, head_of(s, at), 1);
+    let f = Record {
+        file: s,
+        at,
+        head: head_of(s, at),
+    }
+    .field(1);
     f.start
 }
 
 // COMF of a cell of n records.
 pub fn comf_of(s: &[u8], n: usize) -> u32
-    requires { DspmThere s.now × (frame_of s.now ≡ Records n) × (3 ≤ n) }
+    requires { DspmThere s.now × (frame_of s.now ≡ Ok n) × (3 ≤ n) }
     ensures { (result ≡ comf_at s.now) × (result ≤ most_comf) }
 {
     let start = dspm_at(s, n);

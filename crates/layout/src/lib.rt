@@ -10,15 +10,17 @@ pub mod fill;
 pub mod general;
 pub mod place;
 
-ghost use Rattle.std.specs.Prelude.{◌+◌, ◌≤◌, ◌≡◌, length};
+ghost use Rattle.std.specs.Prelude.{◌+◌, ◌≤◌, ◌≡◌, length, IfErr};
+ghost use Rattle.values.specs.Fault.{told_place};
 ghost use Rattle.table.specs.Table.{kind_count};
 ghost use Rattle.iso8211.specs.Premises.{RecordIn};
 ghost use Rattle.layout.specs.Layout.{field_laid, layout_fault};
 
 use crate::fill::filled;
 use crate::place::{START, may_end, placed};
-use iso8211::field::{Field, field_on, head_of, record_end};
+use iso8211::field::{Field, Record, head_of, record_end};
 use table::kind_of;
+use values::fault::Fault;
 
 // The levels of the record of DSID and DSSI at `at`.
 pub use general::levels_at;
@@ -44,28 +46,35 @@ pub fn field_laid(s: &[u8], marks: &[u8], update: bool, stage: usize, prev: usiz
 }
 
 // Where the layout of the record at `at` is broken first: the start of the wrong field, or the
-// record's end where a field is missing; 0 where it is laid out well. `stage` says which record is
-// due: 0 that of DSID, 1 that of DSPM, 2 a vector or a feature, 3 a feature.
-pub fn layout_fault(s: &[u8], at: usize, marks: &[u8], update: bool, stage: usize) -> usize
+// record's end where a field is missing. `stage` says which record is due: 0 that of DSID, 1 that of
+// DSPM, 2 a vector or a feature, 3 a feature.
+pub fn layout_fault(
+    s: &[u8],
+    at: usize,
+    marks: &[u8],
+    update: bool,
+    stage: usize,
+) -> Result<(), Fault>
     requires { RecordIn s.now at × (length marks.now ≡ kind_count) }
-    ensures { (result ≡ layout_fault update stage marks.now s.now at) × (result ≤ length s.now) }
+    ensures { (result ≡ told_place (layout_fault update stage marks.now s.now at)) × IfErr result (λ f. f.at ≤ length s.now) }
 {
     let head = head_of(s, at);
+    let record = Record { file: s, at, head };
     let count = head.count;
     let mut prev: usize = START;
     let mut due = at + head.base;
-    let mut j: usize = 0;
-    while j < count {
-        let f = field_on(s, at, head, j, due);
+    for j in 0..count {
+        let f = record.field_on(j, due);
         if !field_laid(s, marks, update, stage, prev, f) {
-            return f.start;
+            return Err(Fault { at: f.start });
         }
         prev = kind_of(f.tag);
         due = f.start + f.length;
-        j += 1;
     }
     if !may_end(prev) {
-        return record_end(s, at);
+        return Err(Fault {
+            at: record_end(s, at),
+        });
     }
-    0
+    Ok(())
 }

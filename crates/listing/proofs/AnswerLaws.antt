@@ -6,14 +6,12 @@ use mathlib.Core.Path.{◌≡◌, refl, sym, ap, ◌∙◌}
 use native.Mathlib.Omega.{arith}
 use lib.ListN.{length}
 use borrow.Author.Tests.{ne_eqb, lt-ltb, le-ltb}
+use Rattle.std.specs.Prelude.{Result, Ok, Err}
 use Rattle.octets.specs.Area.{Wrote}
 use Rattle.octets.proofs.AreaLaws.{wrote_none, wrote_as}
 use Rattle.iso8211.specs.File.{frame_of}
-use Rattle.iso8211.specs.declared.file.Framed.{Framed}
-use Rattle.iso8211.specs.declared.file.Framed.TheVariants.{Records, Broken}
 use Rattle.names.specs.Premises.{Readable}
 use Rattle.reader.specs.Reader.{framed_front, front_of, cell_fault, work_answer, fronted}
-use Rattle.reader.specs.declared.front.Front.TheVariants.{Count}
 use Rattle.reader.proofs.ReaderLaws.{cell_good}
 use Rattle.judging.specs.Judge.{cell_verdict, judge_of}
 use Rattle.loader.proofs.ReadLaws.{judge_small}
@@ -31,11 +29,11 @@ use Rattle.answers.proofs.FirstLaws.{first_told}
 use Rattle.answers.proofs.AnswerLaws.{filed_told}
 
 -- ---- a verdict of 0
-front_count : (s : List ℕ) (n : ℕ) → length s ≤ 65536 → frame_of s ≡ Records n → front_of 1 s ≡ Count n
+front_count : (s : List ℕ) (n : ℕ) → length s ≤ 65536 → frame_of s ≡ Ok n → front_of 1 s ≡ Ok n
 unfolding front_of framed_front
 front_count s n short framed = rw (le-ltb 5242880 (length s) (omega arith), framed)
 
-judge_counted : (s : List ℕ) (w n : ℕ) → length s ≤ 65536 → frame_of s ≡ Records n → judge_of s w ≡ first_answer (work_answer w n) (filed 1 (cell_verdict s n))
+judge_counted : (s : List ℕ) (w n : ℕ) → length s ≤ 65536 → frame_of s ≡ Ok n → judge_of s w ≡ first_answer (work_answer w n) (filed 1 (cell_verdict s n))
 judge_counted s w n short framed = judge_opened s n (front_count s n short framed) w
 
 verdict_zero : (s : List ℕ) (n : ℕ) → (cell_verdict s n).code ≡ 0 → (cell_fault s n).code ≡ 0
@@ -55,20 +53,20 @@ pub judged_index : (s : List ℕ) (w : ℕ) (a : Answer) → a ≡ judge_of s w 
 judged_index s w a is = rw is (judge_small s w).index_small
 
 -- a cell that is not framed got 2, so no cell that got 0 prints nothing
-pub judge_broken : (s : List ℕ) (w k : ℕ) → length s ≤ 65536 → frame_of s ≡ Broken k → (judge_of s w).code ≡ 2
+pub judge_broken : (s : List ℕ) (w k : ℕ) → length s ≤ 65536 → frame_of s ≡ Err k → (judge_of s w).code ≡ 2
 unfolding judge_of fronted front_of framed_front
 judge_broken s w k short e = rw (le-ltb 5242880 (length s) (omega arith), e)
 
 -- ---- "Its work area always suffices": code 3 doesn't come, and a longer area would change nothing
-pub work_suffices : (s : List ℕ) (n w : ℕ) (on : Answer) → length s ≤ 65536 → 32768 ≤ w → frame_of s ≡ Records n → first_answer (work_answer w n) on ≡ on
+pub work_suffices : (s : List ℕ) (n w : ℕ) (on : Answer) → length s ≤ 65536 → 32768 ≤ w → frame_of s ≡ Ok n → first_answer (work_answer w n) on ≡ on
 work_suffices s n w on short room framed = work_on w n on (omega (arith, records_few s n framed short))
 
-same_framed : (s : List ℕ) (w : ℕ) (f : Framed) → length s ≤ 65536 → 32768 ≤ w → frame_of s ≡ f → judge_of s w ≡ judge_of s 32768
+same_framed : (s : List ℕ) (w : ℕ) (f : Result ℕ ℕ) → length s ≤ 65536 → 32768 ≤ w → frame_of s ≡ f → judge_of s w ≡ judge_of s 32768
 unfolding judge_of fronted front_of framed_front
-same_framed s w (Records n) short room e =
+same_framed s w (Ok n) short room e =
     judge_counted s w n short e ∙ work_suffices s n w _ short room e
     ∙ sym (judge_counted s 32768 n short e ∙ work_suffices s n 32768 _ short (omega arith) e)
-same_framed s w (Broken k) short room e = rw (le-ltb 5242880 (length s) (omega arith), e)
+same_framed s w (Err k) short room e = rw (le-ltb 5242880 (length s) (omega arith), e)
 
 pub judge_same : (s : List ℕ) (w : ℕ) → length s ≤ 65536 → 32768 ≤ w → judge_of s w ≡ judge_of s 32768
 judge_same s w short room = same_framed s w (frame_of s) short room refl
@@ -83,20 +81,20 @@ module _ (s : List ℕ) (a : Answer) where
       → Wrote x 0 (listing_with a s) y r
   answer_refused h wrote = wrote_as (listing_with a s) (sym (with_refused h)) wrote
 
-  module _ (z : a.code ≡ 0) (framed : Framed) (is : framed ≡ frame_of s) where
+  module _ (z : a.code ≡ 0) (framed : Result ℕ ℕ) (is : framed ≡ frame_of s) where
     with_framed : listing_with a s ≡ framed_lines s framed
     unfolding listing_with
     with_framed = rw (z, ← is)
 
-    pub answer_broken : (x : List ℕ) (k : ℕ) → framed ≡ Broken k → Wrote x 0 (listing_with a s) x 0
+    pub answer_broken : (x : List ℕ) (k : ℕ) → framed ≡ Err k → Wrote x 0 (listing_with a s) x 0
     unfolding framed_lines
     answer_broken x k e = wrote_as (listing_with a s) (sym (with_framed ∙ rw e)) (wrote_none x 0 (omega arith))
 
-    pub answer_lines : {x y : List ℕ} {n r : ℕ} → framed ≡ Records n → Wrote x 0 (lines_of s n) y r → Wrote x 0 (listing_with a s) y r
+    pub answer_lines : {x y : List ℕ} {n r : ℕ} → framed ≡ Ok n → Wrote x 0 (lines_of s n) y r → Wrote x 0 (listing_with a s) y r
     unfolding framed_lines
     answer_lines e wrote = wrote_as (listing_with a s) (sym (with_framed ∙ rw e)) wrote
 
-    pub answer_readable : (n : ℕ) → JudgedCell s a → framed ≡ Records n → Readable false s n
+    pub answer_readable : (n : ℕ) → JudgedCell s a → framed ≡ Ok n → Readable false s n
     answer_readable n known e = known.good z n (sym is ∙ e)
 
 -- ---- list: one law for each way out

@@ -32,11 +32,9 @@ fn put_lines(s: &[u8], m: usize, work: &[u8], out: &mut [u8], at: usize) -> usiz
     ensures { Wrote out.old at (lines_from 3 (items_at s.now (words_in work.now 0 m))) out.new result }
 {
     let mut next = at;
-    let mut k: usize = 0;
-    while k < m {
+    for k in 0..m {
         let w = get(work, k);
         next = put_item(s, w, (k + 3) as u32, out, next);
-        k += 1;
     }
     next
 }

@@ -11,7 +11,6 @@ ghost use Rattle.listingrows.specs.Listing.{JudgedCell, listing_with, listing_of
 
 use answers::Answer;
 use answers::codes::LONG;
-use iso8211::Framed;
 use iso8211::file::frame;
 use judging::judge::judge;
 use lines::put_cell;
@@ -33,8 +32,7 @@ fn put_answer(file: &[u8], a: Answer, work: &mut [u8], out: &mut [u8]) -> usize
     if code != 0 {
         return put_refused(out, code, a.file, a.index as u32);
     }
-    let framed = frame(file);
-    let Framed::Records(n) = framed else {
+    let Ok(n) = frame(file) else {
         return 0;
     };
     put_cell(file, n, work, out)

@@ -1,8 +1,6 @@
 -- The listing of a cell: a line for each vector and feature, or the refusal. Assumes nothing.
-use Rattle.std.specs.Prelude.{ℕ, ◌+◌, ◌*◌, ◌≤◌, false, cond, List, [], ◌∷◌, ◌++◌, ◌≡◌, length, eqb, ltb}
+use Rattle.std.specs.Prelude.{ℕ, ◌+◌, ◌*◌, ◌≤◌, false, cond, List, [], ◌∷◌, ◌++◌, ◌≡◌, length, eqb, ltb, Result, Ok, Err}
 use Rattle.iso8211.specs.File.{frame_of}
-use Rattle.iso8211.specs.declared.file.Framed.{Framed}
-use Rattle.iso8211.specs.declared.file.Framed.TheVariants.{Records, Broken}
 use Rattle.words.specs.Words.{words_in}
 use Rattle.table.specs.Table.{ATTV, VRPT, SG2D, SG3D, ATTF, NATF, FFPT, FSPT}
 use Rattle.items.specs.Item.{Item}
@@ -41,9 +39,9 @@ unfoldable pub lines_of : List ℕ → ℕ → List ℕ
 lines_of s n = header_text ++ lines_from 3 (held_items s n)
 
 -- a cell that Judge gave 0 is framed (`judge_broken`)
-unfoldable pub framed_lines : List ℕ → Framed → List ℕ
-framed_lines s (Records n) = lines_of s n
-framed_lines s (Broken k) = []
+unfoldable pub framed_lines : List ℕ → Result ℕ ℕ → List ℕ
+framed_lines s (Ok n) = lines_of s n
+framed_lines s (Err k) = []
 
 -- "Where Judge gives 0 it prints the header below", else the refusal
 unfoldable pub listing_with : Answer → List ℕ → List ℕ
@@ -55,7 +53,7 @@ listing_of s = cond (ltb 65536 (length s)) (refused_text LONG 1 0) (listing_with
 
 -- the answer a is 0 only where s is a cell that can be read
 pub record JudgedCell (s : List ℕ) (a : Answer) : Type 0 where
-  pub good : a.code ≡ 0 → (n : ℕ) → frame_of s ≡ Records n → Readable false s n
+  pub good : a.code ≡ 0 → (n : ℕ) → frame_of s ≡ Ok n → Readable false s n
 
 -- the first m words of the work area stand for records of a cell that is not too long; a record takes 32 bytes at least, so they are few
 pub record Listable (s : List ℕ) (m : ℕ) (work : List ℕ) : Type 0 where

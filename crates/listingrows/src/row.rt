@@ -1,6 +1,5 @@
 // The numbers of a vector's or a feature's line.
 ghost use Rattle.std.specs.Prelude.{◌+◌, ◌*◌, ◌≤◌, ◌≡◌, length};
-ghost use Rattle.iso8211.specs.Premises.{HeadOf};
 ghost use Rattle.items.specs.Lists.{entries_at};
 ghost use Rattle.items.specs.Identity.{rcnm_at};
 ghost use Rattle.items.specs.Item.{item_at};
@@ -8,7 +7,7 @@ ghost use Rattle.listingrows.specs.Listing.{attributes_of, pointers_of, coordina
 ghost use Rattle.items.specs.Premises.{LaidOut, Listed, Identified};
 ghost use Rattle.listingrows.specs.Text.{ShortNumbers};
 
-use iso8211::field::{Head, head_of};
+use iso8211::field::{Record, head_of};
 use items::count::count;
 use items::identity::{rcid_of, rcnm_of, version_of};
 use table::kinds;
@@ -16,44 +15,44 @@ use table::kinds;
 const FEATURE: u32 = 100;
 
 // How many entries the lists of two kinds have together.
-fn both_sizes(s: &[u8], at: usize, h: Head, j: usize, k: usize) -> usize
-    requires { Listed s.now at h j × Listed s.now at h k }
-    ensures { (result ≡ length (entries_at s.now at j) + length (entries_at s.now at k)) × (result ≤ 2 * length s.now) }
+fn both_sizes(r: &Record, j: usize, k: usize) -> usize
+    requires { Listed r.now.file.now r.now.at r.now.head j × Listed r.now.file.now r.now.at r.now.head k }
+    ensures { (result ≡ length (entries_at r.now.file.now r.now.at j) + length (entries_at r.now.file.now r.now.at k)) × (result ≤ 2 * length r.now.file.now) }
 {
-    count(s, at, h, j) + count(s, at, h, k)
+    count(r, j) + count(r, k)
 }
 
 // The size of the attribute list; a feature has two.
-fn attributes(s: &[u8], at: usize, h: Head, rcnm: u32) -> usize
-    requires { LaidOut s.now at × HeadOf s.now at h × (rcnm ≡ rcnm_at s.now at) }
-    ensures { (result ≡ attributes_of (item_at s.now at)) × (result ≤ 2 * length s.now) }
+fn attributes(r: &Record, rcnm: u32) -> usize
+    requires { LaidOut r.now.file.now r.now.at × (rcnm ≡ rcnm_at r.now.file.now r.now.at) }
+    ensures { (result ≡ attributes_of (item_at r.now.file.now r.now.at)) × (result ≤ 2 * length r.now.file.now) }
 {
     if rcnm == FEATURE {
-        return both_sizes(s, at, h, kinds::ATTF, kinds::NATF);
+        return both_sizes(r, kinds::ATTF, kinds::NATF);
     }
-    count(s, at, h, kinds::ATTV)
+    count(r, kinds::ATTV)
 }
 
 // The size of the pointer list; a feature has two, to features and to vectors.
-fn pointers(s: &[u8], at: usize, h: Head, rcnm: u32) -> usize
-    requires { LaidOut s.now at × HeadOf s.now at h × (rcnm ≡ rcnm_at s.now at) }
-    ensures { (result ≡ pointers_of (item_at s.now at)) × (result ≤ 2 * length s.now) }
+fn pointers(r: &Record, rcnm: u32) -> usize
+    requires { LaidOut r.now.file.now r.now.at × (rcnm ≡ rcnm_at r.now.file.now r.now.at) }
+    ensures { (result ≡ pointers_of (item_at r.now.file.now r.now.at)) × (result ≤ 2 * length r.now.file.now) }
 {
     if rcnm == FEATURE {
-        return both_sizes(s, at, h, kinds::FFPT, kinds::FSPT);
+        return both_sizes(r, kinds::FFPT, kinds::FSPT);
     }
-    count(s, at, h, kinds::VRPT)
+    count(r, kinds::VRPT)
 }
 
 // The size of the coordinate list; a feature has none.
-fn coordinates(s: &[u8], at: usize, h: Head, rcnm: u32) -> usize
-    requires { LaidOut s.now at × HeadOf s.now at h × (rcnm ≡ rcnm_at s.now at) }
-    ensures { (result ≡ coordinates_of (item_at s.now at)) × (result ≤ 2 * length s.now) }
+fn coordinates(r: &Record, rcnm: u32) -> usize
+    requires { LaidOut r.now.file.now r.now.at × (rcnm ≡ rcnm_at r.now.file.now r.now.at) }
+    ensures { (result ≡ coordinates_of (item_at r.now.file.now r.now.at)) × (result ≤ 2 * length r.now.file.now) }
 {
     if rcnm == FEATURE {
         return 0;
     }
-    both_sizes(s, at, h, kinds::SG2D, kinds::SG3D)
+    both_sizes(r, kinds::SG2D, kinds::SG3D)
 }
 
 // RCNM, RCID, RVER and the three sizes of the record at `at`.
@@ -62,13 +61,18 @@ pub fn row_at(s: &[u8], at: usize) -> [u32; 6]
     ensures { (result ≡ row_of (item_at s.now at)) × ShortNumbers result }
 {
     let h = head_of(s, at);
-    let rcnm = rcnm_of(s, at, h);
+    let r = Record {
+        file: s,
+        at,
+        head: h,
+    };
+    let rcnm = rcnm_of(&r);
     [
         rcnm,
-        rcid_of(s, at, h),
-        version_of(s, at, h),
-        attributes(s, at, h, rcnm) as u32,
-        pointers(s, at, h, rcnm) as u32,
-        coordinates(s, at, h, rcnm) as u32,
+        rcid_of(&r),
+        version_of(&r),
+        attributes(&r, rcnm) as u32,
+        pointers(&r, rcnm) as u32,
+        coordinates(&r, rcnm) as u32,
     ]
 }

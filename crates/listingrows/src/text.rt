@@ -32,10 +32,8 @@ fn put_tabbed(area: &mut [u8], at: usize, numbers: &[u32]) -> usize
     ensures { Wrote area.old at (tabbed numbers.now) area.new result }
 {
     let mut next = at;
-    let mut k: usize = 0;
-    while k < numbers.len() {
-        next = put_next(area, next, numbers[k]);
-        k += 1;
+    for v in numbers {
+        next = put_next(area, next, *v);
     }
     put1(area, next, b'\n')
 }

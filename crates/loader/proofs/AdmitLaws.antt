@@ -2,7 +2,7 @@
 use Prim.Native.Nat.{ℕ, ◌-◌, ◌*◌, ◌≤◌, ◌<◌}
 use mathlib.Core.Bool.{true, false, not}
 use mathlib.Core.List.{List}
-use mathlib.Core.Path.{◌≡◌, sym, ap, ◌∙◌}
+use mathlib.Core.Path.{◌≡◌, refl, sym, ap, ◌∙◌}
 use native.Mathlib.Nat.{zero-add}
 use native.Mathlib.Omega.{arith}
 use borrow.Author.Tests.{eq-eqb, ne_eqb, lt-ltb, le-ltb, lt-leb, not-true, not-false}
@@ -16,7 +16,7 @@ use Rattle.names.specs.Names.{twice_of}
 use Rattle.counted.specs.Counts.{counts_good}
 use Rattle.names.specs.Premises.{HeldIn}
 use Rattle.reader.specs.Reader.{front_of, work_answer, cell_fault, records_in}
-use Rattle.reader.specs.declared.front.Front.TheVariants.{Count}
+use Rattle.std.specs.Prelude.{Result, Ok, Err}
 use Rattle.reader.proofs.ReaderLaws.{readable, dssi_read, dspm_read, cell_parts}
 use Rattle.topology.specs.Topology.{topology_fault}
 use Rattle.held.specs.Chart.{Chart, chart_of}
@@ -28,7 +28,7 @@ use Rattle.reissue.proofs.WordLaws.{ready}
 use Rattle.judging.specs.Judge.{cell_verdict}
 use Rattle.loader.specs.Admit.{held_answer, written, admit_of, admit_area, area_by, cell_chart}
 use Rattle.answers.specs.declared.refusal.Refusal.{Refusal}
-use Rattle.answers.specs.Answer.{answer, filed}
+use Rattle.answers.specs.Answer.{answer, filed, outcome}
 use Rattle.reader.specs.Lent.{FileOpened}
 use Rattle.answers.specs.declared.answer.Answer.{Answer}
 use Rattle.readonce.specs.Once.{CellRead, CellRefused}
@@ -38,7 +38,8 @@ use Rattle.loader.specs.Settling.{Settling}
 use Rattle.readboth.proofs.CallLaws.{front_opened, opening_on, worked_on}
 use Rattle.answers.specs.First.{first_answer}
 use Rattle.answers.proofs.FirstLaws.{first_told, first_stays}
-use Rattle.answers.proofs.AnswerLaws.{code_kept, filed_kept, filed_told, filed_first, filed_on}
+use Rattle.answers.proofs.AnswerLaws.{code_kept, filed_some, filed_told, filed_first, filed_on}
+use Rattle.answers.proofs.OutcomeLaws.{none_of, some_of}
 
 -- ---- what a verdict without a code says
 pub record Told (s : List ℕ) (n : ℕ) : Type 0 where
@@ -111,8 +112,8 @@ module _ (c : Chart) (out : List ℕ) (a : Answer) where
   pub room_area : (k : ℕ) → a ≡ answer 21 0 0 k 0 → out ≡ area_by a c out
   room_area k e = area_kept (code_kept 21 0 0 k 0 a (λ z. omega arith) e)
 
-  pub filed_area : (file : ℕ) (r : Refusal) → (r.code ≡ 0 → ⊥) → a ≡ filed file r → out ≡ area_by a c out
-  filed_area file r ne e = area_kept (filed_kept file r a ne e)
+  pub filed_area : (file : ℕ) (r : Refusal) → (r.code ≡ 0 → ⊥) → a ≡ answer r.code file r.index 0 r.offset → out ≡ area_by a c out
+  filed_area file r ne e = area_kept (λ z. ne (ap (λ (x : Answer). x.code) (sym e) ∙ z))
 
   pub done_area : (next : List ℕ) (r k : ℕ) → a ≡ answer 0 0 0 k 0 → Wrote out 0 (held_of c) next r → next ≡ area_by a c out
   unfolding area_by written
@@ -130,7 +131,7 @@ module _ (s work : List ℕ) (n : ℕ) (r : Refusal) (is : r ≡ cell_verdict s 
       t.once held room
 
 -- of an opened cell
-module _ (cell : List ℕ) (n : ℕ) (front : front_of 1 cell ≡ Count n) (w : ℕ) where
+module _ (cell : List ℕ) (n : ℕ) (front : front_of 1 cell ≡ Ok n) (w : ℕ) where
   pub admit_opened : (o : ℕ) → admit_of cell w o ≡ first_answer (work_answer w n) (first_answer (filed 1 (cell_verdict cell n)) (held_answer o (chart_of cell n)))
   unfolding admit_of
   admit_opened o =
@@ -144,34 +145,39 @@ module _ (cell : List ℕ) (n : ℕ) (front : front_of 1 cell ≡ Count n) (w : 
     admitted_held none e = rw (admit_opened o, ← is) (worked_on w n _ a room (filed_on 1 r _ a none e))
 
 -- ---- the output
-pub area_opened : (cell : List ℕ) (n : ℕ) → front_of 1 cell ≡ Count n → (w : ℕ) (out next : List ℕ) (a : Answer) → a ≡ admit_of cell w (length out)
+pub area_opened : (cell : List ℕ) (n : ℕ) → front_of 1 cell ≡ Ok n → (w : ℕ) (out next : List ℕ) (a : Answer) → a ≡ admit_of cell w (length out)
     → next ≡ area_by a (chart_of cell n) out → next ≡ admit_area cell w out
 unfolding admit_area records_in
 area_opened cell n front w out next a is e = e ∙ rw (front, is)
 
 -- ---- of a cell that was judged
-module _ {s work : List ℕ} {n : ℕ} {r : Refusal} (so : Settling s n r work) where
-  pub settled_ready : r.code ≡ 0 → ((i : ℕ) → byte_at s i < 256) → Ready s n work
-  settled_ready none small = admitted_ready s work n r so.is none small (front_opened 1 s n so.front) so.room (so.words none)
+module _ {s work : List ℕ} {n : ℕ} {r : Result Unit Refusal} (so : Settling s n r work) where
+  pub settled_ready : {u : Unit} → r ≡ Ok u → ((i : ℕ) → byte_at s i < 256) → Ready s n work
+  settled_ready none small =
+      admitted_ready s work n (cell_verdict s n) refl (none_of _ so.is none) small (front_opened 1 s n so.front) so.room (so.words none)
 
   module _ (o : ℕ) (a : Answer) where
-    pub settled_filed : (r.code ≡ 0 → ⊥) → a ≡ filed 1 r → a ≡ admit_of s (length work) o
-    settled_filed ne e = admitted_filed s n so.front (length work) so.room r so.is o a ne e
+    pub settled_filed : {q : Refusal} → r ≡ Err q → a ≡ answer q.code 1 q.index 0 q.offset → a ≡ admit_of s (length work) o
+    settled_filed {q} told e = let p = some_of _ so.is told in admitted_filed s n so.front (length work) so.room q p.0 o a p.1 (filed_some 1 q a p.1 e)
 
-    pub settled_held : r.code ≡ 0 → a ≡ held_answer o (chart_of s n) → a ≡ admit_of s (length work) o
-    settled_held none e = admitted_held s n so.front (length work) so.room r so.is o a none e
+    pub settled_held : {u : Unit} → r ≡ Ok u → a ≡ held_answer o (chart_of s n) → a ≡ admit_of s (length work) o
+    settled_held none e = admitted_held s n so.front (length work) so.room (cell_verdict s n) refl o a (none_of _ so.is none) e
 
   module _ (out : List ℕ) (a : Answer) where
-    pub settled_kept : (r.code ≡ 0 → ⊥) → a ≡ filed 1 r → out ≡ admit_area s (length work) out
-    settled_kept ne e = area_opened s n so.front (length work) out out a (settled_filed (length out) a ne e) (filed_area (chart_of s n) out a 1 r ne e)
+    pub settled_kept : {q : Refusal} → r ≡ Err q → a ≡ answer q.code 1 q.index 0 q.offset → out ≡ admit_area s (length work) out
+    settled_kept {q} told e =
+        let some = (some_of _ so.is told).1 in
+        area_opened s n so.front (length work) out out a (settled_filed (length out) a told e)
+        (filed_area (chart_of s n) out a 1 q some e)
 
-    pub settled_put : (next : List ℕ) → r.code ≡ 0 → a ≡ held_answer (length out) (chart_of s n) → next ≡ area_by a (chart_of s n) out → next ≡ admit_area s (length work) out
+    pub settled_put : {u : Unit} (next : List ℕ) → r ≡ Ok u → a ≡ held_answer (length out) (chart_of s n) → next ≡ area_by a (chart_of s n) out
+        → next ≡ admit_area s (length work) out
     settled_put next none e by = area_opened s n so.front (length work) out next a (settled_held (length out) a none e) by
 
 -- ---- admitted
-pub settling : {s before work : List ℕ} {n : ℕ} (r : Refusal) → CellRead s n before → length work ≡ length before → r ≡ cell_verdict s n → (r.code ≡ 0 → HeldIn s n work)
-    → Settling s n r work
-settling r so size is words = record { front = so.front; room = (let room = so.room in omega arith); is = is; words = words }
+pub settling : {s before work : List ℕ} {n : ℕ} {r : Result Unit Refusal} → CellRead s n before → length work ≡ length before → r ≡ outcome (cell_verdict s n)
+    → (r ≡ Ok tt → HeldIn s n work) → Settling s n r work
+settling so size is words = record { front = so.front; room = (let room = so.room in omega arith); is = is; words = words }
 
 -- the work area keeps its length while the cell is read
 pub admit_along : (s out : List ℕ) {next : List ℕ} {v w : ℕ} {a : Answer} → v ≡ w → (a ≡ admit_of s v (length out)) × (next ≡ admit_area s v out)

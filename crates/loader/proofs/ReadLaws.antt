@@ -8,13 +8,12 @@ use native.Mathlib.Omega.{arith}
 use lib.ListN.{length}
 use lib.Dec.{eqb, leb, ltb}
 use borrow.Author.Tests.{ltb-false}
+use Rattle.std.specs.Prelude.{Option, Some, None, Result, Ok, Err}
 use Rattle.octets.specs.Lists.{is_in}
 use Rattle.octets.specs.Number.{num_at}
 use Rattle.octets.proofs.Cases.{true_or_false}
 use Rattle.iso8211.specs.Record.{end_of}
 use Rattle.iso8211.specs.File.{frame_of, record_at}
-use Rattle.iso8211.specs.declared.file.Framed.{Framed}
-use Rattle.iso8211.specs.declared.file.Framed.TheVariants.{Records, Broken}
 use Rattle.iso8211.proofs.Promise.{records_few, broken_few}
 use Rattle.declarations.specs.Described.{described_of}
 use Rattle.layout.specs.Layout.{layout_fault}
@@ -26,8 +25,6 @@ use Rattle.names.specs.Names.{first_item, items_from, twice_from, first_twice, t
 use Rattle.counted.specs.Counts.{counts_good}
 use Rattle.lookups.specs.Lookup.{name_in, found_code}
 use Rattle.names.specs.Held.{insert_by, order_by, held_order, held_items, held_offsets, place_in, object_in}
-use Rattle.lookups.specs.declared.lookup.Found.{Found}
-use Rattle.lookups.specs.declared.lookup.Found.TheVariants.{At, Nothing}
 use Rattle.table.specs.Table.{VRPT, FFPT, FSPT}
 use Rattle.vectorshape.specs.Shape.{shape_good, shape_code}
 use Rattle.pointer.specs.Pointer.{names_code, lnams_code, pointer_code}
@@ -35,8 +32,6 @@ use Rattle.answers.specs.First.{first_by}
 use Rattle.ring.specs.Ring.{node_in, rings_good, ring_code}
 use Rattle.topology.specs.Topology.{item_code, code_among, fault_from, topology_of, located, topology_fault}
 use Rattle.reader.specs.Reader.{framed_front, front_of, twice_refusal, counts_refusal, cell_fault, work_answer, fronted, opening, update_fault}
-use Rattle.reader.specs.declared.front.Front.{Front}
-use Rattle.reader.specs.declared.front.Front.TheVariants.{Count, Refused}
 use Rattle.judging.specs.Judge.{cell_verdict, judge_of}
 use Rattle.held.specs.Chart.{Chart, chart_of}
 use Rattle.held.specs.Held.{held_of}
@@ -116,12 +111,12 @@ pub cond_least : (b : Bool) (x y m : ℕ) → x ≤ m → y ≤ m → cond b x y
 cond_least true x y m h k = h
 cond_least false x y m h k = k
 
-found_least : (x : Found) → found_code x ≤ 18
+found_least : (x : Option ℕ) → found_code x ≤ 18
 unfolding found_code
-found_least (At k) = omega arith
-found_least Nothing = omega arith
+found_least (Some k) = omega arith
+found_least None = omega arith
 
-names_least : (place : ℕ → Found) (es : List (List ℕ)) → names_code place es ≤ 18
+names_least : (place : ℕ → Option ℕ) (es : List (List ℕ)) → names_code place es ≤ 18
 unfolding names_code first_by
 names_least place [] = omega arith
 names_least place (e ∷ es) = cond_least (eqb (found_code (place (name_in e))) 0) _ _ 18 (names_least place es) (found_least (place (name_in e)))
@@ -131,7 +126,7 @@ unfolding lnams_code
 lnams_least object [] = omega arith
 lnams_least object (e ∷ es) = cond_least (object (num_at e 0 8)) _ _ 18 (lnams_least object es) (omega arith)
 
-pointer_least : (place : ℕ → Found) (object : ℕ → Bool) (i : Item) → pointer_code place object i ≤ 18
+pointer_least : (place : ℕ → Option ℕ) (object : ℕ → Bool) (i : Item) → pointer_code place object i ≤ 18
 unfolding pointer_code first_by
 pointer_least place object i =
     cond_least (eqb i.rcnm 100) _ _ 18
@@ -195,15 +190,15 @@ unfolding cell_verdict
 verdict_few s n = few_first (cell_few s n) (topology_few s n)
 
 -- what begins with the front of a file: codes 1 and 2 are small, and a framed file has no more records than bytes
-framed_cases : (P : Front → Type 0) (file : ℕ) (s : List ℕ) (f : Framed) → f ≡ frame_of s → length s ≤ 5242880 → file ≤ 3
-    → ((a : Answer) → Small a → P (Refused a)) → ((n : ℕ) → n ≤ 5242880 → P (Count n)) → P (framed_front file s f)
+framed_cases : (P : Result ℕ Answer → Type 0) (file : ℕ) (s : List ℕ) (f : Result ℕ ℕ) → f ≡ frame_of s → length s ≤ 5242880 → file ≤ 3
+    → ((a : Answer) → Small a → P (Err a)) → ((n : ℕ) → n ≤ 5242880 → P (Ok n)) → P (framed_front file s f)
 unfolding framed_front
-framed_cases P file s (Records n) e short low refused count = let few = records_few s n (sym e) in count n (omega arith)
-framed_cases P file s (Broken k) e short low refused count =
+framed_cases P file s (Ok n) e short low refused count = let few = records_few s n (sym e) in count n (omega arith)
+framed_cases P file s (Err k) e short low refused count =
     let few = broken_few s k (sym e) in
     refused (answer 2 file k 0 (record_at s k)) (small_made 2 file k 0 (record_at s k) (omega arith) low (omega arith) (omega arith))
 
-pub front_cases : (P : Front → Type 0) (file : ℕ) (s : List ℕ) → file ≤ 3 → ((a : Answer) → Small a → P (Refused a)) → ((n : ℕ) → n ≤ 5242880 → P (Count n))
+pub front_cases : (P : Result ℕ Answer → Type 0) (file : ℕ) (s : List ℕ) → file ≤ 3 → ((a : Answer) → Small a → P (Err a)) → ((n : ℕ) → n ≤ 5242880 → P (Ok n))
     → P (front_of file s)
 unfolding front_of
 front_cases P file s low refused count =

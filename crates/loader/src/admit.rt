@@ -5,12 +5,12 @@ ghost use Rattle.reissue.specs.Plan.{Ready};
 ghost use Rattle.loader.specs.Admit.{held_answer, area_by, admit_of, admit_area};
 ghost use Rattle.loader.specs.Settling.{Settling};
 
-use answers::answer::{answered, filed};
+use answers::answer::{answered, of_refusal};
 use answers::codes::{MOST_RECORDS, ROOM, SIZE};
 use answers::{Answer, Refusal};
 use judging::judge::cell_verdict;
 use octets::area::clear;
-use readonce::cell::{Read, cell_read};
+use readonce::cell::cell_read;
 use reissue::plan::planned;
 use reissue::write::put_chart;
 
@@ -39,14 +39,13 @@ fn held_into(cell: &[u8], n: usize, out: &mut [u8], work: &[u8]) -> Answer
 }
 
 // A cell of n records whose verdict is r: that refusal, or these codes and the held form.
-fn settled(cell: &[u8], n: usize, r: Refusal, out: &mut [u8], work: &[u8]) -> Answer
+fn settled(cell: &[u8], n: usize, r: Result<(), Refusal>, out: &mut [u8], work: &[u8]) -> Answer
     requires { Settling cell.now n r work.now }
     ensures value { result ≡ admit_of cell.now (length work.now) (length out.old) }
     ensures out_after { out.new ≡ admit_area cell.now (length work.now) out.old }
 {
-    let code = r.code;
-    if code != 0 {
-        return filed(1, r);
+    if let Err(refusal) = r {
+        return of_refusal(1, refusal);
     }
     held_into(cell, n, out, work)
 }
@@ -56,13 +55,12 @@ fn admitted(cell: &[u8], out: &mut [u8], work: &mut [u8]) -> Answer
     ensures value { result ≡ admit_of cell.now (length work.old) (length out.old) }
     ensures out_after { out.new ≡ admit_area cell.now (length work.old) out.old }
 {
-    let read = cell_read(cell, work);
-    match read {
-        Read::Refused(a) => a,
-        Read::All(n) => {
+    match cell_read(cell, work) {
+        Ok(n) => {
             let r = cell_verdict(cell, n, work);
             settled(cell, n, r, out, work)
         }
+        Err(a) => a,
     }
 }
 

@@ -10,6 +10,7 @@ use native.Mathlib.Omega.{arith}
 use lib.Dec.{eqb}
 use lib.ListN.{length, get_or}
 use borrow.Author.Tests.{eq-eqb, ne_eqb, eqb-true}
+use Rattle.std.specs.Prelude.{Option, Some, None}
 use Rattle.octets.specs.Lists.{is_in}
 use Rattle.octets.proofs.Cases.{true_or_false, le_or_lt, eq_or_ne}
 use Rattle.words.specs.Words.{word_at, words_in}
@@ -23,8 +24,6 @@ use Rattle.items.specs.Word.{name_of, word_offset}
 use Rattle.items.proofs.IdentityLaws.{num_one, name_small}
 use Rattle.lookups.specs.Lookup.{name_in, found_code}
 use Rattle.lookups.specs.LookupWords.{lookup, index_from, index_of, FirstTold, WordTold}
-use Rattle.lookups.specs.declared.lookup.Found.{Found}
-use Rattle.lookups.specs.declared.lookup.Found.TheVariants.{At, Nothing}
 
 -- ---- the name that an entry starts with: c is its class, g the class's rank
 pub name_in_read : (e : List ℕ) (c g rcid : ℕ) → Reads e 0 1 c → g ≡ rank_of c → Reads e 1 4 rcid → (g * 4294967296 + rcid ≡ name_in e) × (g * 4294967296 + rcid < 17179869184)
@@ -36,14 +35,14 @@ name_in_read e c g rcid class rank id =
 
 -- ---- the index, told by the names
 -- no word has it
-pub index_none : (k : ℕ) (ws : List ℕ) (name : ℕ) → ((p : ℕ) → p < length ws → name_of (get_or ws p 0) ≡ name → ⊥) → index_from k ws name ≡ Nothing
+pub index_none : (k : ℕ) (ws : List ℕ) (name : ℕ) → ((p : ℕ) → p < length ws → name_of (get_or ws p 0) ≡ name → ⊥) → index_from k ws name ≡ None
 unfolding index_from
 index_none k [] name h = refl
 index_none k (w ∷ ws) name h = rw (ne_eqb (name_of w) name (h 0 (omega arith)), index_none (k + 1) ws name (λ p b. h (suc p) (omega arith)))
 
 -- word i has it, and none before
 pub index_here : (k : ℕ) (ws : List ℕ) (name i : ℕ) → i < length ws → ((p : ℕ) → p < i → name_of (get_or ws p 0) ≡ name → ⊥) → name_of (get_or ws i 0) ≡ name
-    → index_from k ws name ≡ At (k + i)
+    → index_from k ws name ≡ Some (k + i)
 unfolding index_from
 index_here k [] name i h low is = absurd (omega arith)
 index_here k (w ∷ ws) name zero h low is = rw (eq-eqb (name_of w) name is, add-zero k)
@@ -52,29 +51,29 @@ index_here k (w ∷ ws) name (suc i) h low is =
     rw (ne_eqb (name_of w) name (low 0 (omega arith)), sum) (index_here (k + 1) ws name i (omega arith) (λ p b. low (suc p) (omega arith)) is)
 
 -- ---- the place, told by the index
-lookup_none_from : (k : ℕ) (ws : List ℕ) (name : ℕ) → index_from k ws name ≡ Nothing → lookup ws name ≡ Nothing
+lookup_none_from : (k : ℕ) (ws : List ℕ) (name : ℕ) → index_from k ws name ≡ None → lookup ws name ≡ None
 unfolding index_from lookup
 lookup_none_from k [] name e = refl
 lookup_none_from k (w ∷ ws) name e = by (lookup_none_from (k + 1) ws name) (true_or_false (eqb (name_of w) name)) e
   where
-    by : (index_from (k + 1) ws name ≡ Nothing → lookup ws name ≡ Nothing) → (eqb (name_of w) name ≡ true) ⊎ (eqb (name_of w) name ≡ false)
-        → cond (eqb (name_of w) name) (At k) (index_from (k + 1) ws name) ≡ Nothing → cond (eqb (name_of w) name) (At (word_offset w)) (lookup ws name) ≡ Nothing
+    by : (index_from (k + 1) ws name ≡ None → lookup ws name ≡ None) → (eqb (name_of w) name ≡ true) ⊎ (eqb (name_of w) name ≡ false)
+        → cond (eqb (name_of w) name) (Some k) (index_from (k + 1) ws name) ≡ None → cond (eqb (name_of w) name) (Some (word_offset w)) (lookup ws name) ≡ None
     by rest t =
-        ⊎_elim (λ (h : eqb (name_of w) name ≡ true). rw h (λ (e : At k ≡ Nothing). absurd (let z : ◌≡◌ {A = ℕ} 0 1 = cc in omega arith)))
+        ⊎_elim (λ (h : eqb (name_of w) name ≡ true). rw h (λ (e : Some k ≡ None). absurd (let z : ◌≡◌ {A = ℕ} 0 1 = cc in omega arith)))
         (λ (h : eqb (name_of w) name ≡ false). rw h rest) t
 
 -- the index is one of the words', and the place is that word's
 record Told (k : ℕ) (ws : List ℕ) (name i : ℕ) : Type 0 where
   low : k ≤ i
   less : i - k < length ws
-  place : lookup ws name ≡ At (word_offset (get_or ws (i - k) 0))
+  place : lookup ws name ≡ Some (word_offset (get_or ws (i - k) 0))
 
-lookup_here_from : (k : ℕ) (ws : List ℕ) (name i : ℕ) → index_from k ws name ≡ At i → Told k ws name i
+lookup_here_from : (k : ℕ) (ws : List ℕ) (name i : ℕ) → index_from k ws name ≡ Some i → Told k ws name i
 unfolding index_from lookup
 lookup_here_from k [] name i e = absurd (let z : ◌≡◌ {A = ℕ} 0 1 = cc in omega arith)
 lookup_here_from k (w ∷ ws) name i e = by (lookup_here_from (k + 1) ws name i) (true_or_false (eqb (name_of w) name)) e
   where
-    here : eqb (name_of w) name ≡ true → At k ≡ At i → Told k (w ∷ ws) name i
+    here : eqb (name_of w) name ≡ true → Some k ≡ Some i → Told k (w ∷ ws) name i
     here h e =
         let same : k ≡ i = cc in
         let none : i - k ≡ 0 = omega arith in
@@ -87,22 +86,22 @@ lookup_here_from k (w ∷ ws) name i e = by (lookup_here_from (k + 1) ws name i)
         let next : i - k ≡ suc (i - (k + 1)) = omega arith in
         record { low = omega arith; less = omega arith; place = rw (h, next) t.place }
 
-    by : (index_from (k + 1) ws name ≡ At i → Told (k + 1) ws name i) → (eqb (name_of w) name ≡ true) ⊎ (eqb (name_of w) name ≡ false)
-        → cond (eqb (name_of w) name) (At k) (index_from (k + 1) ws name) ≡ At i → Told k (w ∷ ws) name i
+    by : (index_from (k + 1) ws name ≡ Some i → Told (k + 1) ws name i) → (eqb (name_of w) name ≡ true) ⊎ (eqb (name_of w) name ≡ false)
+        → cond (eqb (name_of w) name) (Some k) (index_from (k + 1) ws name) ≡ Some i → Told k (w ∷ ws) name i
     by rest t =
-        ⊎_elim (λ (h : eqb (name_of w) name ≡ true). rw h (here h)) (λ (h : eqb (name_of w) name ≡ false). rw h (λ (e : index_from (k + 1) ws name ≡ At i). later h (rest e))) t
+        ⊎_elim (λ (h : eqb (name_of w) name ≡ true). rw h (here h)) (λ (h : eqb (name_of w) name ≡ false). rw h (λ (e : index_from (k + 1) ws name ≡ Some i). later h (rest e))) t
 
-pub lookup_none : (ws : List ℕ) (name : ℕ) → index_of ws name ≡ Nothing → lookup ws name ≡ Nothing
+pub lookup_none : (ws : List ℕ) (name : ℕ) → index_of ws name ≡ None → lookup ws name ≡ None
 unfolding index_of
 lookup_none ws name e = lookup_none_from 0 ws name e
 
-pub lookup_here : (ws : List ℕ) (name i : ℕ) → index_of ws name ≡ At i → (i < length ws) × (lookup ws name ≡ At (word_offset (get_or ws i 0)))
+pub lookup_here : (ws : List ℕ) (name i : ℕ) → index_of ws name ≡ Some i → (i < length ws) × (lookup ws name ≡ Some (word_offset (get_or ws i 0)))
 unfolding index_of
 lookup_here ws name i e = let t = lookup_here_from 0 ws name i e in let same : i - 0 ≡ i = omega arith in (rw same at t.less, rw same at t.place)
 
 -- ---- what an answer tells
 -- a place is that of a word that has the name
-pub lookup_told : (ws : List ℕ) (name p : ℕ) → lookup ws name ≡ At p → (i : ℕ) × (i < length ws) × (name_of (get_or ws i 0) ≡ name) × (word_offset (get_or ws i 0) ≡ p)
+pub lookup_told : (ws : List ℕ) (name p : ℕ) → lookup ws name ≡ Some p → (i : ℕ) × (i < length ws) × (name_of (get_or ws i 0) ≡ name) × (word_offset (get_or ws i 0) ≡ p)
 unfolding lookup
 lookup_told [] name p e = absurd (let z : ◌≡◌ {A = ℕ} 0 1 = cc in omega arith)
 lookup_told (w ∷ ws) name p e = by (lookup_told ws name p) (true_or_false (eqb (name_of w) name)) e
@@ -111,35 +110,35 @@ lookup_told (w ∷ ws) name p e = by (lookup_told ws name p) (true_or_false (eqb
         → (i : ℕ) × (i < suc (length ws)) × (name_of (get_or (w ∷ ws) i 0) ≡ name) × (word_offset (get_or (w ∷ ws) i 0) ≡ p)
     later t = (suc t.0, (let b = t.1 in omega arith), t.2, t.3)
 
-    by : (lookup ws name ≡ At p → (i : ℕ) × (i < length ws) × (name_of (get_or ws i 0) ≡ name) × (word_offset (get_or ws i 0) ≡ p))
-        → (eqb (name_of w) name ≡ true) ⊎ (eqb (name_of w) name ≡ false) → cond (eqb (name_of w) name) (At (word_offset w)) (lookup ws name) ≡ At p
+    by : (lookup ws name ≡ Some p → (i : ℕ) × (i < length ws) × (name_of (get_or ws i 0) ≡ name) × (word_offset (get_or ws i 0) ≡ p))
+        → (eqb (name_of w) name ≡ true) ⊎ (eqb (name_of w) name ≡ false) → cond (eqb (name_of w) name) (Some (word_offset w)) (lookup ws name) ≡ Some p
         → (i : ℕ) × (i < suc (length ws)) × (name_of (get_or (w ∷ ws) i 0) ≡ name) × (word_offset (get_or (w ∷ ws) i 0) ≡ p)
     by rest t =
-        ⊎_elim (λ (h : eqb (name_of w) name ≡ true). rw h (λ (e : At (word_offset w) ≡ At p). (0, omega arith, eqb-true _ _ h, cc)))
-        (λ (h : eqb (name_of w) name ≡ false). rw h (λ (e : lookup ws name ≡ At p). later (rest e))) t
+        ⊎_elim (λ (h : eqb (name_of w) name ≡ true). rw h (λ (e : Some (word_offset w) ≡ Some p). (0, omega arith, eqb-true _ _ h, cc)))
+        (λ (h : eqb (name_of w) name ≡ false). rw h (λ (e : lookup ws name ≡ Some p). later (rest e))) t
 
 -- nothing: no word has it
-pub lookup_lost : (ws : List ℕ) (name i : ℕ) → i < length ws → name_of (get_or ws i 0) ≡ name → lookup ws name ≡ Nothing → ⊥
+pub lookup_lost : (ws : List ℕ) (name i : ℕ) → i < length ws → name_of (get_or ws i 0) ≡ name → lookup ws name ≡ None → ⊥
 unfolding lookup
 lookup_lost [] name i h is = λ e. omega arith
-lookup_lost (w ∷ ws) name zero h is = rw (eq-eqb (name_of w) name is) (λ (e : At (word_offset w) ≡ Nothing). absurd (let z : ◌≡◌ {A = ℕ} 0 1 = cc in omega arith))
+lookup_lost (w ∷ ws) name zero h is = rw (eq-eqb (name_of w) name is) (λ (e : Some (word_offset w) ≡ None). absurd (let z : ◌≡◌ {A = ℕ} 0 1 = cc in omega arith))
 lookup_lost (w ∷ ws) name (suc i) h is = by (lookup_lost ws name i (omega arith) is) (true_or_false (eqb (name_of w) name))
   where
-    by : (lookup ws name ≡ Nothing → ⊥) → (eqb (name_of w) name ≡ true) ⊎ (eqb (name_of w) name ≡ false)
-        → cond (eqb (name_of w) name) (At (word_offset w)) (lookup ws name) ≡ Nothing → ⊥
+    by : (lookup ws name ≡ None → ⊥) → (eqb (name_of w) name ≡ true) ⊎ (eqb (name_of w) name ≡ false)
+        → cond (eqb (name_of w) name) (Some (word_offset w)) (lookup ws name) ≡ None → ⊥
     by rest t =
-        ⊎_elim (λ (h : eqb (name_of w) name ≡ true). rw h (λ (e : At (word_offset w) ≡ Nothing). absurd (let z : ◌≡◌ {A = ℕ} 0 1 = cc in omega arith)))
+        ⊎_elim (λ (h : eqb (name_of w) name ≡ true). rw h (λ (e : Some (word_offset w) ≡ None). absurd (let z : ◌≡◌ {A = ℕ} 0 1 = cc in omega arith)))
         (λ (h : eqb (name_of w) name ≡ false). rw h rest) t
 
-pub found_cases : (r : Found) → (r ≡ Nothing) ⊎ ((p : ℕ) × (r ≡ At p))
-found_cases (At p) = inr (p, refl)
-found_cases Nothing = inl refl
+pub found_cases : (r : Option ℕ) → (r ≡ None) ⊎ ((p : ℕ) × (r ≡ Some p))
+found_cases (Some p) = inr (p, refl)
+found_cases None = inl refl
 
-pub code_nothing : found_code Nothing ≡ 18
+pub code_nothing : found_code None ≡ 18
 unfolding found_code
 code_nothing = refl
 
-pub code_at : (p : ℕ) → found_code (At p) ≡ 0
+pub code_at : (p : ℕ) → found_code (Some p) ≡ 0
 unfolding found_code
 code_at p = refl
 
@@ -148,15 +147,15 @@ module _ (l : List ℕ) (name k : ℕ) (first : first_from (name * 16777216) l �
   before : (p : ℕ) → p < k → name_of (get_or l p 0) ≡ name → ⊥
   before p b e = let z = first_before (name * 16777216) l p (omega arith) in omega arith
 
-  pub sorted_end : length l ≤ k → index_of l name ≡ Nothing
+  pub sorted_end : length l ≤ k → index_of l name ≡ None
   unfolding index_of
   sorted_end h = index_none 0 l name (λ p b. before p (omega arith))
 
-  pub sorted_here : k < length l → name_of (get_or l k 0) ≡ name → index_of l name ≡ At k
+  pub sorted_here : k < length l → name_of (get_or l k 0) ≡ name → index_of l name ≡ Some k
   unfolding index_of
   sorted_here h is = rw zero-add at (index_here 0 l name k h before is)
 
-  pub sorted_not : Sorted l → k < length l → (name_of (get_or l k 0) ≡ name → ⊥) → index_of l name ≡ Nothing
+  pub sorted_not : Sorted l → k < length l → (name_of (get_or l k 0) ≡ name → ⊥) → index_of l name ≡ None
   unfolding index_of
   sorted_not so h ne =
       index_none 0 l name
@@ -166,14 +165,14 @@ module _ (l : List ℕ) (name k : ℕ) (first : first_from (name * 16777216) l �
 
 -- ---- index_of: find's answer r, and the word x read there
 module _ (s : List ℕ) (start m name r : ℕ) (is : r ≡ start + first_from (name * 16777216) (words_in s start m)) where
-  pub index_end : start + m ≤ r → Nothing ≡ index_of (words_in s start m) name
+  pub index_end : start + m ≤ r → None ≡ index_of (words_in s start m) name
   index_end h = sym (sorted_end (words_in s start m) name (first_from (name * 16777216) (words_in s start m)) refl (omega (arith, words_length s start m)))
 
   module _ (x : ℕ) (there : x ≡ word_at s r) (less : r < start + m) where
     word_there : get_or (words_in s start m) (first_from (name * 16777216) (words_in s start m)) 0 ≡ x
     word_there = words_at s start m (first_from (name * 16777216) (words_in s start m)) (omega arith) ∙ rw (← is) (sym there)
 
-    pub index_found : x / 16777216 ≡ name → At (r - start) ≡ index_of (words_in s start m) name
+    pub index_found : x / 16777216 ≡ name → Some (r - start) ≡ index_of (words_in s start m) name
     index_found h =
         let back : r - start ≡ first_from (name * 16777216) (words_in s start m) = omega arith in
         rw back
@@ -181,22 +180,22 @@ module _ (s : List ℕ) (start m name r : ℕ) (is : r ≡ start + first_from (n
         (sorted_here (words_in s start m) name (first_from (name * 16777216) (words_in s start m)) refl (omega (arith, words_length s start m))
         (ap (λ (w : ℕ). w / 16777216) word_there ∙ h)))
 
-    pub index_lost : Sorted (words_in s start m) → (x / 16777216 ≡ name → ⊥) → Nothing ≡ index_of (words_in s start m) name
+    pub index_lost : Sorted (words_in s start m) → (x / 16777216 ≡ name → ⊥) → None ≡ index_of (words_in s start m) name
     index_lost so ne =
         sym
         (sorted_not (words_in s start m) name (first_from (name * 16777216) (words_in s start m)) refl so (omega (arith, words_length s start m))
         (λ e. ne (sym (ap (λ (w : ℕ). w / 16777216) word_there) ∙ e)))
 
 -- ---- lookup: the index i that index_of answered, and the word x read there
-module _ (s : List ℕ) (start m name : ℕ) (r : Found) (is : r ≡ index_of (words_in s start m) name) where
-  pub place_none : r ≡ Nothing → Nothing ≡ lookup (words_in s start m) name
+module _ (s : List ℕ) (start m name : ℕ) (r : Option ℕ) (is : r ≡ index_of (words_in s start m) name) where
+  pub place_none : r ≡ None → None ≡ lookup (words_in s start m) name
   place_none e = sym (lookup_none (words_in s start m) name (sym is ∙ e))
 
-  module _ (i : ℕ) (e : r ≡ At i) where
+  module _ (i : ℕ) (e : r ≡ Some i) where
     pub place_less : i < m
     place_less = let t = lookup_here (words_in s start m) name i (sym is ∙ e) in let b = t.0 in omega (arith, words_length s start m)
 
-    pub place_here : (x : ℕ) → x ≡ word_at s (start + i) → At (x % 16777216) ≡ lookup (words_in s start m) name
+    pub place_here : (x : ℕ) → x ≡ word_at s (start + i) → Some (x % 16777216) ≡ lookup (words_in s start m) name
     place_here x there =
         let t = lookup_here (words_in s start m) name i (sym is ∙ e) in
         rw there (rw (← words_at s start m i place_less) (sym t.1))
@@ -243,7 +242,7 @@ module _ (s : List ℕ) (start m name near x : ℕ) (there : x ≡ word_at s (st
 
 -- a guess that holds
 pub first_told : (s : List ℕ) (start m name near : ℕ) (r : Bool) → FirstTold (words_in s start m) name near r → r ≡ true
-    → At near ≡ index_of (words_in s start m) name
+    → Some near ≡ index_of (words_in s start m) name
 first_told s start m name near r told e = told.is e
 
 -- ---- is_there

@@ -23,28 +23,21 @@ pub fn name_in(e: &[u8]) -> u64
     rank * word::CLASS_WEIGHT + rcid
 }
 
-// Where a name was found, if any record has it.
-#[derive(Drop)]
-pub enum Found {
-    At(usize),
-    Nothing,
-}
-
-// Of the m words from word `from` on the index of the first that has this name. Words that have it
-// stand behind all smaller names, so the first word that is not below the name's least has it, or
-// none has.
-pub fn index_of(area: &[u8], from: usize, m: usize, name: u64) -> Found
+// Of the m words from word `from` on the index of the first that has this name, if one has. Words that
+// have it stand behind all smaller names, so the first word that is not below the name's least has it,
+// or none has.
+pub fn index_of(area: &[u8], from: usize, m: usize, name: u64) -> Option<usize>
     requires { (8 * (from + m) ≤ length area.now) × Sorted (words_in area.now from m) × (name < name_bound) }
     ensures { result ≡ index_of (words_in area.now from m) name }
 {
     let p = find(area, from, m, name * word::NAME_WEIGHT);
     if from + m <= p {
-        return Found::Nothing;
+        return None;
     }
     if get(area, p) / word::NAME_WEIGHT == name {
-        return Found::At(p - from);
+        return Some(p - from);
     }
-    Found::Nothing
+    None
 }
 
 // Whether the word at index `near` is the first that has this name: it has it, and the word before
@@ -85,29 +78,34 @@ fn guess(area: &[u8], from: usize, m: usize, name: u64, start: usize) -> usize
 
 // The same as `index_of`. Before it halves it tries the index `near`, then the one that the name
 // would have among names without gaps from index `start` on; both may be any numbers.
-pub fn index_near(area: &[u8], from: usize, m: usize, name: u64, near: usize, start: usize) -> Found
+pub fn index_near(
+    area: &[u8],
+    from: usize,
+    m: usize,
+    name: u64,
+    near: usize,
+    start: usize,
+) -> Option<usize>
     requires { (8 * (from + m) ≤ length area.now) × Sorted (words_in area.now from m) × (name < name_bound) }
     ensures { result ≡ index_of (words_in area.now from m) name }
 {
     if is_first(area, from, m, name, near) {
-        return Found::At(near);
+        return Some(near);
     }
     let next = guess(area, from, m, name, start);
     if is_first(area, from, m, name, next) {
-        return Found::At(next);
+        return Some(next);
     }
     index_of(area, from, m, name)
 }
 
-// The place of the record that has this name, by the m words from word `from` on.
-pub fn lookup(area: &[u8], from: usize, m: usize, name: u64) -> Found
+// The place of the record that has this name, if one has, by the m words from word `from` on.
+pub fn lookup(area: &[u8], from: usize, m: usize, name: u64) -> Option<usize>
     requires { (8 * (from + m) ≤ length area.now) × Sorted (words_in area.now from m) × (name < name_bound) }
     ensures { result ≡ lookup (words_in area.now from m) name }
 {
-    let Found::At(i) = index_of(area, from, m, name) else {
-        return Found::Nothing;
-    };
-    Found::At((get(area, from + i) % word::NAME_WEIGHT) as usize)
+    let i = index_of(area, from, m, name)?;
+    Some((get(area, from + i) % word::NAME_WEIGHT) as usize)
 }
 
 // Whether w is one of the m words from word `from` on.
@@ -139,30 +137,13 @@ fn is_there(area: &[u8], from: usize, m: usize, w: u64, near: usize) -> bool
 // How many words on each side of a guess are halved before all are.
 const ABOUT: usize = 32;
 
-// n less k; none where k is more.
-fn less(n: usize, k: usize) -> usize
-    ensures { result ≤ n }
-{
-    if n < k {
-        return 0;
-    }
-    n - k
-}
-
-// The lesser of two.
-fn least(a: usize, b: usize) -> usize
-    ensures { (result ≤ a) × (result ≤ b) }
-{
-    if a < b { a } else { b }
-}
-
 // The index at which w stands if it is one of the words about the index `near`: a guess, which
 // promises nothing.
 fn about(area: &[u8], from: usize, m: usize, w: u64, near: usize) -> usize
     requires { (8 * (from + m) ≤ length area.now) × Sorted (words_in area.now from m) }
 {
-    let low = less(least(near, m), ABOUT);
-    let n = least(m - low, 2 * ABOUT);
+    let low = near.min(m).saturating_sub(ABOUT);
+    let n = (m - low).min(2 * ABOUT);
     find(area, from + low, n, w) - from
 }
 

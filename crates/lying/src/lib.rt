@@ -1,25 +1,24 @@
 // Where the fields of each kind lie in a record: one walk over its fields finds all of them. It promises
-// to the crates above: `lie`, the places of all kinds; `put_lying` and `total_lying`, the bytes of a list and
-// how many they are, by its place. It takes fields from `iso8211` and records that are laid out from
+// to the crates above: `Lists`, of which `of` finds the places of all kinds, `put` copies the bytes of a list and
+// `total` says how many they are, by its place. It takes fields from `iso8211` and records that are laid out from
 // `items`. A list in several fields is left to `joining`.
 #![tactic(auto)]
 
 ghost use Rattle.std.specs.Prelude.{◌+◌, ◌-◌, ◌≤◌, ◌<◌, ◌≡◌, length};
 ghost use Rattle.octets.specs.Area.{Wrote};
-ghost use Rattle.iso8211.specs.Premises.{HeadOf};
 ghost use Rattle.table.specs.Table.{kind_count};
 ghost use Rattle.items.specs.Lists.{list_at};
 ghost use Rattle.items.specs.Premises.{LaidOut};
 ghost use Rattle.lying.specs.Lying.{Nowhere, Set, Kept, Lain, Lies};
 
-use iso8211::field::{Field, Head, field_on};
+use iso8211::field::{Field, Record, head_of};
 use joining::lists::{put_list, total};
 use octets::area::copy;
 use table::{kind_of, kinds};
 
-// How many numbers the places of all kinds are: of each where its field starts, then of each where it
-// ends.
-pub const PLACES: usize = 40;
+pub mod lists;
+
+pub use lists::{Lists, PLACES};
 
 // The content of a field: from `from` up to `to` of the file. Where `to` is before `from`, its place is
 // not known.
@@ -60,41 +59,82 @@ fn field_end(s: &[u8], f: Field) -> usize
 }
 
 // Where the fields behind the directory start.
-fn fields_start(s: &[u8], at: usize, h: Head) -> usize
-    requires { HeadOf s.now at h }
-    ensures { result ≡ at + h.base }
+fn fields_start(r: &Record) -> usize
+    ensures { result ≡ r.now.at + r.now.head.base }
 {
-    at + h.base
+    r.at + r.head.base
 }
 
 // The places of all fields of the record at `at`, into numbers that are 0.
-pub fn lie(s: &[u8], at: usize, h: Head, l: &mut [usize; PLACES])
-    requires { LaidOut s.now at × HeadOf s.now at h × Nowhere l.old }
-    ensures { Lain s.now at l.new }
+fn lie(r: &Record, l: &mut [usize; PLACES])
+    requires { LaidOut r.now.file.now r.now.at × Nowhere l.old }
+    ensures { Lain r.now.file.now r.now.at l.new }
 {
-    let count = h.count;
-    let mut due = fields_start(s, at, h);
-    let mut j: usize = 0;
-    while j < count {
-        let f = field_on(s, at, h, j, due);
-        j += 1;
+    let count = r.head.count;
+    let mut due = fields_start(r);
+    for j in 0..count {
+        let f = r.field_on(j, due);
         let k = kind_of(f.tag);
-        keep(s, l, k, f);
-        due = field_end(s, f);
+        keep(r.file, l, k, f);
+        due = field_end(r.file, f);
     }
 }
 
-// The place of the list of kind k.
-fn place_of(s: &[u8], at: usize, l: &[usize; PLACES], k: usize) -> Place
-    requires { Lain s.now at l.now }
-    ensures { Lies s.now at k result }
-{
-    if kinds::COUNT <= k {
-        return Place { from: 1, to: 0 };
+impl<'a> Lists<'a> {
+    // Those of the record at `at`.
+    pub fn of(file: &'a [u8], at: usize) -> Lists<'a>
+        requires { LaidOut file.now at }
+        ensures { (result.record.file.now ≡ file.now) × (result.record.at ≡ at) }
+    {
+        let record = Record {
+            file,
+            at,
+            head: head_of(file, at),
+        };
+        let mut places = [0usize; PLACES];
+        lie(&record, &mut places);
+        Lists { record, places }
     }
-    Place {
-        from: l[k],
-        to: l[k + kinds::COUNT],
+
+    // The place of the list of kind k.
+    fn place(&self, k: usize) -> Place
+        ensures { Lies self.now.record.file.now self.now.record.at k result }
+    {
+        if kinds::COUNT <= k {
+            return Place { from: 1, to: 0 };
+        }
+        Place {
+            from: self.places[k],
+            to: self.places[k + kinds::COUNT],
+        }
+    }
+
+    // How many bytes the list of kind k has.
+    pub fn total(&self, k: usize) -> u32
+        requires { LaidOut self.now.record.file.now self.now.record.at }
+        ensures { (result ≡ length (list_at self.now.record.file.now self.now.record.at k)) × (result ≤ 300000) }
+    {
+        let p = self.place(k);
+        let from = p.from;
+        let to = p.to;
+        if to < from {
+            return total(&self.record, k);
+        }
+        between(from, to)
+    }
+
+    // The bytes of the list of kind k, copied.
+    pub fn put(&self, k: usize, out: &mut [u8], place: usize) -> usize
+        requires { LaidOut self.now.record.file.now self.now.record.at × (place + length (list_at self.now.record.file.now self.now.record.at k) ≤ length out.old) }
+        ensures { Wrote out.old place (list_at self.now.record.file.now self.now.record.at k) out.new result }
+    {
+        let p = self.place(k);
+        let from = p.from;
+        let to = p.to;
+        if to < from {
+            return put_list(&self.record, k, out, place);
+        }
+        copy(&self.record.file[from..to], out, place)
     }
 }
 
@@ -104,40 +144,4 @@ fn between(from: usize, to: usize) -> u32
     ensures { (result ≡ to - from) × (result ≤ 300000) }
 {
     (to - from) as u32
-}
-
-// How many bytes the list of kind k has.
-pub fn total_lying(s: &[u8], at: usize, h: Head, l: &[usize; PLACES], k: usize) -> u32
-    requires { LaidOut s.now at × HeadOf s.now at h × Lain s.now at l.now }
-    ensures { (result ≡ length (list_at s.now at k)) × (result ≤ 300000) }
-{
-    let p = place_of(s, at, l, k);
-    let from = p.from;
-    let to = p.to;
-    if to < from {
-        return total(s, at, h, k);
-    }
-    between(from, to)
-}
-
-// The bytes of the list of kind k, copied.
-pub fn put_lying(
-    s: &[u8],
-    at: usize,
-    h: Head,
-    l: &[usize; PLACES],
-    k: usize,
-    out: &mut [u8],
-    place: usize,
-) -> usize
-    requires { LaidOut s.now at × HeadOf s.now at h × Lain s.now at l.now × (place + length (list_at s.now at k) ≤ length out.old) }
-    ensures { Wrote out.old place (list_at s.now at k) out.new result }
-{
-    let p = place_of(s, at, l, k);
-    let from = p.from;
-    let to = p.to;
-    if to < from {
-        return put_list(s, at, h, k, out, place);
-    }
-    copy(&s[from..to], out, place)
 }

@@ -5,13 +5,12 @@ use mathlib.Core.List.{List, [], ◌∷◌, map}
 use mathlib.Core.Path.{◌≡◌, refl, sym, ap, ◌∙◌, fun_ext}
 use native.Mathlib.Nat.{sub-zero}
 use lib.Dec.{eqb}
+use Rattle.std.specs.Prelude.{Option, Some, None}
 use Rattle.words.specs.Words.{words_in}
 use Rattle.items.specs.Word.{name_of, word_offset}
 use Rattle.items.specs.Item.{Item, item_name}
 use Rattle.lookups.specs.LookupWords.{lookup, index_from, index_of}
 use Rattle.names.specs.Held.{place_from, place_in}
-use Rattle.lookups.specs.declared.lookup.Found.{Found}
-use Rattle.lookups.specs.declared.lookup.Found.TheVariants.{At, Nothing}
 use Rattle.merge.specs.Words.{has_name}
 use Rattle.merge.specs.Area.{words_back}
 use Rattle.merge.specs.Places.{joined, single, double, thing_of, places_from, places_of}
@@ -19,29 +18,29 @@ use Rattle.merge.specs.Meant.{AllKeyed, keyed_none, keyed_more}
 use Rattle.merge.proofs.JoinedLaws.{joined_map}
 
 -- ---- a name is found just if a word has it
-unfoldable is_found : Found → Bool
-is_found Nothing = false
-is_found (At p) = true
+unfoldable is_found : Option ℕ → Bool
+is_found None = false
+is_found (Some p) = true
 
 found_name : (ws : List ℕ) (name : ℕ) → has_name name ws ≡ is_found (lookup ws name)
 unfolding lookup has_name is_found
 found_name [] name = refl
 found_name (w ∷ ws) name = pick (eqb (name_of w) name) (found_name ws name) where
-  pick : (z : Bool) → has_name name ws ≡ is_found (lookup ws name) → (z || has_name name ws) ≡ is_found (cond z (At (word_offset w)) (lookup ws name))
+  pick : (z : Bool) → has_name name ws ≡ is_found (lookup ws name) → (z || has_name name ws) ≡ is_found (cond z (Some (word_offset w)) (lookup ws name))
   pick true rest = refl
   pick false rest = rest
 
-pub lookup_has : (ws : List ℕ) (name p : ℕ) → lookup ws name ≡ At p → has_name name ws ≡ true
+pub lookup_has : (ws : List ℕ) (name p : ℕ) → lookup ws name ≡ Some p → has_name name ws ≡ true
 unfolding is_found
 lookup_has ws name p e = found_name ws name ∙ ap is_found e
 
-pub lookup_not : (ws : List ℕ) (name : ℕ) → lookup ws name ≡ Nothing → has_name name ws ≡ false
+pub lookup_not : (ws : List ℕ) (name : ℕ) → lookup ws name ≡ None → has_name name ws ≡ false
 unfolding is_found
 lookup_not ws name e = found_name ws name ∙ ap is_found e
 
 -- ---- a name has among the items of the result the index that it has among the words
-place_pick : (k name : ℕ) (x y : Item) (p q : List Item) (f : Found) (w : ℕ) (z : Bool) → item_name x ≡ name_of w → item_name y ≡ name_of w
-    → place_from (k + 1) p name ≡ f → place_from (k + 1) q name ≡ f → place_from k (cond z (x ∷ p) (y ∷ q)) name ≡ cond (eqb (name_of w) name) (At k) f
+place_pick : (k name : ℕ) (x y : Item) (p q : List Item) (f : Option ℕ) (w : ℕ) (z : Bool) → item_name x ≡ name_of w → item_name y ≡ name_of w
+    → place_from (k + 1) p name ≡ f → place_from (k + 1) q name ≡ f → place_from k (cond z (x ∷ p) (y ∷ q)) name ≡ cond (eqb (name_of w) name) (Some k) f
 unfolding place_from
 place_pick k name x y p q f w true e g a b = rw (e, a)
 place_pick k name x y p q f w false e g a b = rw (g, b)

@@ -148,7 +148,7 @@ module _ (s : List ℕ) (p i q j : ℕ) (t : Turn) where
         rw (turn, words_first s p i c cell is, words_first s q j u update by, mark)
         (list_new u (c ∷ words_in s (suc p) (i - 1)) (words_in s (suc q) (j - 1)) (over_more h over) (first_over_lem s q j u update by us))
 
-    module _ (no : u / name_weight ≤ c / name_weight) (nor : c / name_weight ≤ u / name_weight) (d : Bool) (told : d ≡ deletes u) where
+    module _ (same : c / name_weight ≡ u / name_weight) (d : Bool) (told : d ≡ deletes u) where
       pub turn_gone : d ≡ true → t ≡ deleted_turn c → Turned (words_in s p i) (words_in s q j) t
       turn_gone g turn =
           rw (turn, words_first s p i c cell is, words_first s q j u update by)

@@ -5,7 +5,7 @@ ghost use Rattle.merge.specs.Area.{Standing, Marks};
 ghost use Rattle.names.specs.Premises.{Stands};
 
 use crate::turn::mark;
-use iso8211::field::head_of;
+use iso8211::field::{Record, head_of};
 use items::identity::ruin_of;
 use items::word;
 use words::{get, put};
@@ -16,7 +16,12 @@ fn with_ruin(s: &[u8], w: u64) -> u64
     ensures { result ≡ with_ruin s.now w }
 {
     let at = (w % word::NAME_WEIGHT) as usize;
-    if ruin_of(s, at, head_of(s, at)) == 2 {
+    if ruin_of(&Record {
+        file: s,
+        at,
+        head: head_of(s, at),
+    }) == 2
+    {
         return mark(w);
     }
     w
@@ -27,10 +32,8 @@ pub fn mark_deletes(s: &[u8], work: &mut [u8], from: usize, m: usize)
     requires { Standing s.now work.old from m }
     ensures { Marks s.now work.old from m work.new }
 {
-    let mut i: usize = 0;
-    while i < m {
+    for i in 0..m {
         let w = with_ruin(s, get(work, from + i));
         put(work, from + i, w);
-        i += 1;
     }
 }

@@ -7,6 +7,7 @@ ghost use Rattle.merge.specs.Area.{kept_turn, inserted_turn, deleted_turn, modif
 ghost use Rattle.names.specs.Premises.{Strict};
 
 use items::word;
+use std::cmp::Ordering;
 use words::get;
 
 // What a turn takes and gives: x words of the cell and y of the update are used up; `keep` words of
@@ -108,14 +109,10 @@ pub fn taken(work: &[u8], p: usize, i: usize, q: usize, j: usize) -> Turn
     let u = get(work, q);
     let held = c / word::NAME_WEIGHT;
     let named = u / word::NAME_WEIGHT;
-    if held < named {
-        return kept(c);
+    match held.cmp(&named) {
+        Ordering::Less => kept(c),
+        Ordering::Greater => inserted(mark(u)),
+        Ordering::Equal if is_delete(u) => deleted(c),
+        Ordering::Equal => modified(c, u),
     }
-    if named < held {
-        return inserted(mark(u));
-    }
-    if is_delete(u) {
-        return deleted(c);
-    }
-    modified(c, u)
 }

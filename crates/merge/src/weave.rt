@@ -3,7 +3,7 @@ ghost use Rattle.std.specs.Prelude.{◌+◌, ◌-◌, ◌*◌, ◌≤◌, ◌<�
 ghost use Rattle.merge.specs.Area.{Halves, Weaves, SetDown, Settled};
 
 use crate::turn::{Turn, taken};
-use words::{get, put};
+use words::put;
 
 // How many words the result has, and how many of its items the update modifies.
 #[derive(Drop)]
@@ -32,6 +32,7 @@ pub fn weave(work: &mut [u8], n: usize, m: usize) -> Woven
     let mut j: usize = 0;
     let mut count: usize = 0;
     let mut edits: usize = 0;
+    // A while: a turn takes a word of the one, of the other or of both.
     while i + j < h {
         let t = taken(work, h + i, n - i, h + n + j, m - j);
         set_down(work, h, count, edits, t);
@@ -48,10 +49,8 @@ pub fn settle(work: &mut [u8], h: usize, edits: usize)
     requires { (16 * h ≤ length work.old) × (edits ≤ h) }
     ensures { Settled work.old h edits work.new }
 {
-    let mut i: usize = 0;
-    while i < edits {
-        let w = get(work, h - 1 - i);
-        put(work, 2 * h - 1 - i, w);
-        i += 1;
-    }
+    let from = 8 * (h - edits);
+    let to = 8 * h;
+    let (front, behind) = work.split_at_mut(to);
+    behind[from..to].copy_from_slice(&front[from..]);
 }

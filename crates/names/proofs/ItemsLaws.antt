@@ -3,17 +3,17 @@
 use Prim.Native.Nat.{ℕ, zero, suc, ◌+◌, ◌-◌, ◌≤◌, ◌<◌}
 use mathlib.Core.Bool.{Bool, true, false}
 use mathlib.Core.List.{List, [], ◌∷◌, map}
-use mathlib.Core.Logic.{◌⊎◌, ⊎_elim}
+use mathlib.Core.Logic.{⊎_elim}
 use mathlib.Core.Path.{◌≡◌, refl, sym, ap, ◌∙◌}
 use native.Mathlib.Omega.{arith}
 use lib.ListN.{length}
 use lib.Dec.{leb}
 use borrow.Author.Tests.{le-leb, lt-leb}
+use Rattle.std.specs.Prelude.{Ok}
 use Rattle.octets.specs.Lists.{is_in}
 use Rattle.octets.proofs.Cases.{true_or_false, le_or_lt}
 use Rattle.iso8211.specs.Record.{end_of}
 use Rattle.iso8211.specs.File.{frame_of, record_at}
-use Rattle.iso8211.specs.declared.file.Framed.TheVariants.{Records}
 use Rattle.iso8211.proofs.Promise.{at_start, at_next}
 use Rattle.words.specs.Order.{insert, sorted}
 use Rattle.items.specs.Identity.{name_at, word_for}
@@ -70,7 +70,7 @@ module _ {A : Type 0} (f : ℕ → A) (name : A → ℕ) where
   order_by_lem (rising_more {w = w} is told more) = insert_by_lem w is (sorted_told told) ∙ ap (insert_by name (f w)) (order_by_lem more)
 
 -- ---- the words of a file
-module _ (s : List ℕ) (n : ℕ) (framed : frame_of s ≡ Records n) (short : length s ≤ 5242880) where
+module _ (s : List ℕ) (n : ℕ) (framed : frame_of s ≡ Ok n) (short : length s ≤ 5242880) where
   place_low : (k : ℕ) → k < n → record_at s k < name_weight
   place_low k h = omega (arith, at_inside s n k (record_at s k) framed h refl)
 

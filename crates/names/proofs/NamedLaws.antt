@@ -3,10 +3,11 @@
 use Prim.Native.Nat.{ℕ, ◌+◌, ◌-◌, ◌≤◌, ◌<◌}
 use mathlib.Core.Bool.{Bool, true}
 use mathlib.Core.List.{List}
-use mathlib.Core.Logic.{◌⊎◌, ⊎_elim}
+use mathlib.Core.Logic.{⊎_elim}
 use mathlib.Core.Path.{◌≡◌, refl, sym, ap, ◌∙◌}
 use native.Mathlib.Omega.{arith}
 use lib.ListN.{get_or}
+use Rattle.std.specs.Prelude.{Some, None}
 use Rattle.octets.proofs.ListLaws.{member_at, member_place}
 use Rattle.octets.specs.Lists.{is_in}
 use Rattle.iso8211.specs.File.{record_at}
@@ -20,7 +21,6 @@ use Rattle.lookups.specs.LookupWords.{lookup}
 use Rattle.names.specs.Premises.{Readable}
 use Rattle.names.specs.Names.{first_item}
 use Rattle.lookups.specs.Lookup.{found_code}
-use Rattle.lookups.specs.declared.lookup.Found.TheVariants.{At, Nothing}
 use Rattle.names.proofs.NamesLaws.{from_length, from_at}
 use Rattle.names.proofs.ReadableLaws.{place_small}
 use Rattle.lookups.proofs.LookupLaws.{lookup_told, lookup_lost, found_cases, code_nothing, code_at}
@@ -46,7 +46,7 @@ module _ (update : Bool) (s : List ℕ) (n : ℕ) where
 -- ---- the look-up
 module _ {update : Bool} {s : List ℕ} {n : ℕ} (readable : Readable update s n) (name : ℕ) where
   -- the place is that of a record that has the name
-  pub found_record : (p : ℕ) → lookup (sorted (name_words update s n)) name ≡ At p → (k : ℕ) × (first_item update ≤ k) × (k < n) × (record_at s k ≡ p) × (name_at s p ≡ name)
+  pub found_record : (p : ℕ) → lookup (sorted (name_words update s n)) name ≡ Some p → (k : ℕ) × (first_item update ≤ k) × (k < n) × (record_at s k ≡ p) × (name_at s p ≡ name)
   found_record p e =
       let ws = sorted (name_words update s n) in
       let t = lookup_told ws name p e in
@@ -57,7 +57,7 @@ module _ {update : Bool} {s : List ℕ} {n : ℕ} (readable : Readable update s 
       (r.0, r.1, r.2, place, rw place at named)
 
   -- nothing: no record has it
-  pub lost_record : lookup (sorted (name_words update s n)) name ≡ Nothing → (k : ℕ) → first_item update ≤ k → k < n → name_at s (record_at s k) ≡ name → ⊥
+  pub lost_record : lookup (sorted (name_words update s n)) name ≡ None → (k : ℕ) → first_item update ≤ k → k < n → name_at s (record_at s k) ≡ name → ⊥
   lost_record e k low high is =
       let ws = sorted (name_words update s n) in
       let t = member_place (word_for s (record_at s k)) ws (record_word update s n k low high) in
@@ -67,24 +67,24 @@ module _ {update : Bool} {s : List ℕ} {n : ℕ} (readable : Readable update s 
   -- "a NAME is refused exactly if no record of the cell has it"
   pub name_refused : ((k : ℕ) → first_item update ≤ k → k < n → name_at s (record_at s k) ≡ name → ⊥) → found_code (lookup (sorted (name_words update s n)) name) ≡ 18
   name_refused none =
-      ⊎_elim (λ (e : lookup (sorted (name_words update s n)) name ≡ Nothing). rw e code_nothing)
-      (λ (t : (p : ℕ) × (lookup (sorted (name_words update s n)) name ≡ At p)).
+      ⊎_elim (λ (e : lookup (sorted (name_words update s n)) name ≡ None). rw e code_nothing)
+      (λ (t : (p : ℕ) × (lookup (sorted (name_words update s n)) name ≡ Some p)).
       let r = found_record t.0 t.1 in absurd (none r.0 r.1 r.2 (rw r.3 r.4)))
       (found_cases (lookup (sorted (name_words update s n)) name))
 
   pub name_found : (k : ℕ) → first_item update ≤ k → k < n → name_at s (record_at s k) ≡ name → found_code (lookup (sorted (name_words update s n)) name) ≡ 0
   name_found k low high is =
-      ⊎_elim (λ (e : lookup (sorted (name_words update s n)) name ≡ Nothing). absurd (lost_record e k low high is))
-      (λ (t : (p : ℕ) × (lookup (sorted (name_words update s n)) name ≡ At p)). rw t.1 (code_at t.0))
+      ⊎_elim (λ (e : lookup (sorted (name_words update s n)) name ≡ None). absurd (lost_record e k low high is))
+      (λ (t : (p : ℕ) × (lookup (sorted (name_words update s n)) name ≡ Some p)). rw t.1 (code_at t.0))
       (found_cases (lookup (sorted (name_words update s n)) name))
 
   -- where no other record has the name, the place is that of the one that has it
   pub name_place : (k : ℕ) → first_item update ≤ k → k < n → name_at s (record_at s k) ≡ name → ((j : ℕ) → first_item update ≤ j → j < n → name_at s (record_at s j) ≡ name → j ≡ k)
-      → lookup (sorted (name_words update s n)) name ≡ At (record_at s k)
+      → lookup (sorted (name_words update s n)) name ≡ Some (record_at s k)
   name_place k low high is only =
-      ⊎_elim (λ (e : lookup (sorted (name_words update s n)) name ≡ Nothing). absurd (lost_record e k low high is))
-      (λ (t : (p : ℕ) × (lookup (sorted (name_words update s n)) name ≡ At p)).
+      ⊎_elim (λ (e : lookup (sorted (name_words update s n)) name ≡ None). absurd (lost_record e k low high is))
+      (λ (t : (p : ℕ) × (lookup (sorted (name_words update s n)) name ≡ Some p)).
       let r = found_record t.0 t.1 in
       let same : r.0 ≡ k = only r.0 r.1 r.2 (rw r.3 r.4) in
-      t.1 ∙ ap (λ (p : ℕ). At p) (sym r.3 ∙ ap (λ (j : ℕ). record_at s j) same))
+      t.1 ∙ ap (λ (p : ℕ). Some p) (sym r.3 ∙ ap (λ (j : ℕ). record_at s j) same))
       (found_cases (lookup (sorted (name_words update s n)) name))

@@ -4,11 +4,11 @@ use mathlib.Core.Bool.{Bool, true, false}
 use mathlib.Core.List.{List}
 use mathlib.Core.Path.{◌≡◌, refl, sym, ap, ◌∙◌}
 use native.Mathlib.Omega.{arith}
+use Rattle.std.specs.Prelude.{Ok}
 use Rattle.items.specs.Word.{name_weight}
 use Rattle.headvalues.specs.Dspm.{most_comf}
 use Rattle.iso8211.specs.Premises.{FramedAt}
 use Rattle.iso8211.specs.File.{frame_of, record_at}
-use Rattle.iso8211.specs.declared.file.Framed.TheVariants.{Records}
 use Rattle.iso8211.proofs.Promise.{framed_at, records_few, record_in, fields_in}
 use Rattle.table.specs.Table.{DSSI, DSPM}
 use Rattle.layout.specs.Layout.{filled}
@@ -46,7 +46,7 @@ unfolding first_item
 readable_known readable k at low high e = rw e (readable.items k low high).1
 
 -- "Cell: 0; then 0001 DSID DSSI": DSSI is there once record 1 is laid out
-pub dssi_there : {marks s : List ℕ} (n : ℕ) → frame_of s ≡ Records n → 1 < n → Laid false 0 marks s (record_at s 1) → DssiThere s
+pub dssi_there : {marks s : List ℕ} (n : ℕ) → frame_of s ≡ Ok n → 1 < n → Laid false 0 marks s (record_at s 1) → DssiThere s
 dssi_there {marks} {s} n v h laid =
     let at = record_at s 1 in
     let kinds = laid_dsid laid refl in
@@ -62,7 +62,7 @@ dssi_there {marks} {s} n v h laid =
     }
 
 -- "then 0001 DSPM": it is there once record 2 is laid out; that COMF is not above its most is Value's
-pub dspm_there : {marks s : List ℕ} (n : ℕ) → frame_of s ≡ Records n → 2 < n → Laid false 1 marks s (record_at s 2) → comf_at s ≤ most_comf → DspmThere s
+pub dspm_there : {marks s : List ℕ} (n : ℕ) → frame_of s ≡ Ok n → 2 < n → Laid false 1 marks s (record_at s 2) → comf_at s ≤ most_comf → DspmThere s
 dspm_there {marks} {s} n v h laid few =
     let at = record_at s 2 in
     let kinds = laid_dspm laid refl in

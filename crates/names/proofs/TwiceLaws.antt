@@ -1,19 +1,23 @@
 -- Laws of the pass over the sorted words, and of its answer as `twice` takes it. Assumes nothing.
 use Prim.Native.Nat.{ℕ, suc, ◌+◌, ◌-◌, ◌≤◌, ◌<◌}
-use mathlib.Core.Bool.{Bool}
+use mathlib.Core.Bool.{Bool, true, false}
 use mathlib.Core.List.{List, []}
-use mathlib.Core.Logic.{◌⊎◌, ⊎_elim}
-use mathlib.Core.Path.{◌≡◌, sym, ap, ◌∙◌}
+use mathlib.Core.Logic.{⊎_elim}
+use mathlib.Core.Path.{◌≡◌, refl, sym, ap, ◌∙◌}
 use native.Mathlib.Numerals.{add-one}
 use native.Mathlib.Omega.{arith}
 use lib.ListN.{length}
+use borrow.Author.Tests.{eq-eqb, ne_eqb}
+use Rattle.std.specs.Prelude.{Option, Some, None}
+use Rattle.octets.proofs.Cases.{eq_or_ne}
 use Rattle.items.specs.Word.{name_weight}
 use Rattle.iso8211.specs.File.{record_at}
 use Rattle.words.specs.Words.{word_at, words_in}
 use Rattle.words.specs.Order.{sorted}
 use Rattle.names.specs.NameWords.{name_words, word_twice}
 use Rattle.names.specs.Premises.{Readable}
-use Rattle.names.specs.Names.{first_item, twice_of}
+use Rattle.names.specs.Names.{first_item, twice_of, met_twice}
+use Rattle.names.specs.declared.twice.Repeat.{Repeat}
 use Rattle.names.specs.Neighbours.{lower, least_from, least_repeat}
 use Rattle.names.proofs.WalkLaws.{at_inside}
 use Rattle.names.proofs.ItemsLaws.{twice_words}
@@ -49,6 +53,11 @@ pub pass_done : (s : List ℕ) (m i least left all : ℕ) → m ≤ i → all �
 pass_done s m i least left all past so = sym (so ∙ end_at s i (m - i) least left (omega arith))
 
 -- ---- the answer
+first_two : (update : Bool) → 2 ≤ first_item update
+unfolding first_item
+first_two true = omega arith
+first_two false = omega arith
+
 module _ (update : Bool) (s area : List ℕ) (n first least : ℕ) (known : Readable update s n)
     (order : words_in area 0 (n - first_item update) ≡ sorted (name_words update s n)) (is : first ≡ first_item update)
     (passed : least ≡ least_repeat (words_in area 0 (n - first))) where
@@ -78,20 +87,40 @@ module _ (update : Bool) (s area : List ℕ) (n first least : ℕ) (known : Read
   words_tell : twice_of update s n ≡ word_twice (first_item update) [] (name_words update s n)
   words_tell = twice_words s n known.framed known.short update known.head
 
-  pub twice_none : least ≡ name_weight → record { index = 0; offset = 0 } ≡ twice_of update s n
-  twice_none none =
+  none_is : least ≡ name_weight → record { index = 0; offset = 0 } ≡ twice_of update s n
+  none_is none =
       let ws = name_words update s n in
       let p = of_words in
       ⊎_elim (λ (alone : (least_repeat (sorted ws) ≡ name_weight) × (word_twice (first_item update) [] ws ≡ record { index = 0; offset = 0 })). sym (words_tell ∙ alone.1))
       (λ (f : First (first_item update) ws (least_repeat (sorted ws))). let place = f.place in absurd (omega arith))
       (twice_least (first_item update) ws (ascending update s n known))
 
+  pub twice_none : least ≡ name_weight → None ≡ met_twice (twice_of update s n)
+  unfolding met_twice
+  twice_none none = rw (← none_is none) refl
+
   pub twice_inside : (least ≡ name_weight → ⊥) → least < length s
   twice_inside some = at_inside s n (first_item update + (first_of some).j) least known.framed (index_low some) (place_of some)
 
   pub twice_is : (index : ℕ) → (least ≡ name_weight → ⊥) → ((k : ℕ) → k < n → least ≡ record_at s k → index ≡ k)
-      → record { index = index; offset = least } ≡ twice_of update s n
+      → Some (record { index = index; offset = least }) ≡ met_twice (twice_of update s n)
+  unfolding met_twice
   twice_is index some at =
       let f = first_of some in
       let e = at (first_item update + f.j) (index_low some) (place_of some) in
-      rw e (sym (words_tell ∙ f.is))
+      let is : record { index = index; offset = least } ≡ twice_of update s n = rw e (sym (words_tell ∙ f.is)) in
+      let low = first_two update in
+      let past : index ≡ 0 → ⊥ = λ z. omega arith in
+      rw (← is, ne_eqb index 0 past) refl
+
+-- ---- the answer read back
+pub met_none : (t : Repeat) {r : Option Repeat} → r ≡ met_twice t → r ≡ None → t.index ≡ 0
+unfolding met_twice
+met_none t {r} e h =
+    ⊎_elim (λ (z : t.index ≡ 0). z) (λ (some : t.index ≡ 0 → ⊥). absurd (let q : r ≡ Some t = rw (ne_eqb _ _ some) at e in cc)) (eq_or_ne t.index 0)
+
+pub met_some : (t : Repeat) {r : Option Repeat} {w : Repeat} → r ≡ met_twice t → r ≡ Some w → (w ≡ t) × (t.index ≡ 0 → ⊥)
+unfolding met_twice
+met_some t {r} {w} e h =
+    ⊎_elim (λ (z : t.index ≡ 0). absurd (let q : r ≡ None = rw (eq-eqb _ _ z) at e in cc))
+    (λ (some : t.index ≡ 0 → ⊥). let q : r ≡ Some t = rw (ne_eqb _ _ some) at e in (cc, some)) (eq_or_ne t.index 0)

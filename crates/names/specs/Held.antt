@@ -1,12 +1,10 @@
 -- The items of a cell in held order, and what can be asked of them all: where a name stands, whether a feature has a FOID. Assumes nothing.
-use Rattle.std.specs.Prelude.{ℕ, zero, suc, ◌+◌, ◌-◌, Bool, false, cond, ◌&&◌, ◌||◌, List, [], ◌∷◌, eqb, leb}
+use Rattle.std.specs.Prelude.{ℕ, zero, suc, ◌+◌, ◌-◌, Bool, false, cond, ◌&&◌, ◌||◌, List, [], ◌∷◌, eqb, leb, Option, Some, None}
 use Rattle.iso8211.specs.Record.{end_of}
 use Rattle.iso8211.specs.File.{record_at}
 use Rattle.items.specs.Identity.{name_at}
 use Rattle.items.specs.Item.{Item, item_name}
 use Rattle.names.specs.Names.{items_from}
-use Rattle.lookups.specs.declared.lookup.Found.{Found}
-use Rattle.lookups.specs.declared.lookup.Found.TheVariants.{At, Nothing}
 
 -- "vectors by class 110, 120, 130, then features, RCID ascending": one of these put among those, by its name
 unfoldable pub insert_by : {A : Type 0} → (A → ℕ) → A → List A → List A
@@ -34,11 +32,11 @@ unfoldable pub held_offsets : List ℕ → ℕ → List ℕ
 held_offsets s n = order_by (name_at s) (offsets_from (n - 3) s (record_at s 3))
 
 -- the first item that has this name, the first of these items being item k
-unfoldable pub place_from : ℕ → List Item → ℕ → Found
-place_from k [] name = Nothing
-place_from k (i ∷ is) name = cond (eqb (item_name i) name) (At k) (place_from (k + 1) is name)
+unfoldable pub place_from : ℕ → List Item → ℕ → Option ℕ
+place_from k [] name = None
+place_from k (i ∷ is) name = cond (eqb (item_name i) name) (Some k) (place_from (k + 1) is name)
 
-unfoldable pub place_in : List Item → ℕ → Found
+unfoldable pub place_in : List Item → ℕ → Option ℕ
 place_in all name = place_from 0 all name
 
 -- whether a feature has this FOID

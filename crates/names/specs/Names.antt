@@ -1,5 +1,5 @@
 -- The vectors and features of a file, and the first name that is met twice. Assumes nothing.
-use Rattle.std.specs.Prelude.{ℕ, zero, suc, ◌+◌, ◌-◌, Bool, cond, List, [], ◌∷◌}
+use Rattle.std.specs.Prelude.{ℕ, zero, suc, ◌+◌, ◌-◌, Bool, cond, eqb, List, [], ◌∷◌, Option, Some, None}
 use Rattle.octets.specs.Lists.{is_in}
 use Rattle.iso8211.specs.Record.{end_of}
 use Rattle.iso8211.specs.File.{record_at}
@@ -27,3 +27,7 @@ first_twice update s n = twice_from (first_item update) [] (items_from (n - firs
 -- and where it starts
 unfoldable pub twice_of : Bool → List ℕ → ℕ → Repeat
 twice_of update s n = record { index = first_twice update s n; offset = record_at s (first_twice update s n) }
+
+-- how the code tells it: None where there is none
+unfoldable pub met_twice : Repeat → Option Repeat
+met_twice t = cond (eqb t.index 0) None (Some t)

@@ -1,7 +1,6 @@
 -- What the code knows of a file's items and of their words. It serves the proofs, and nothing here need be believed. Assumes nothing.
-use Rattle.std.specs.Prelude.{ℕ, ◌+◌, ◌-◌, ◌*◌, ◌≤◌, ◌<◌, Bool, false, List, ◌≡◌, length, get_or}
+use Rattle.std.specs.Prelude.{ℕ, ◌+◌, ◌-◌, ◌*◌, ◌≤◌, ◌<◌, Bool, false, List, ◌≡◌, length, get_or, Ok}
 use Rattle.iso8211.specs.File.{frame_of, record_at}
-use Rattle.iso8211.specs.declared.file.Framed.TheVariants.{Records}
 use Rattle.words.specs.Words.{words_in}
 use Rattle.words.specs.Order.{sorted, Sorted}
 use Rattle.items.specs.Identity.{word_for}
@@ -12,7 +11,7 @@ use Rattle.names.specs.NameWords.{name_words}
 
 -- what is known of a file of n records that passed Layout and Value
 pub record Readable (update : Bool) (s : List ℕ) (n : ℕ) : Type 0 where
-  pub framed : frame_of s ≡ Records n
+  pub framed : frame_of s ≡ Ok n
   pub short : length s ≤ 5242880
   pub head : first_item update ≤ n
   pub items : (k : ℕ) → first_item update ≤ k → k < n → LaidOut s (record_at s k) × Identified s (record_at s k)

@@ -6,7 +6,7 @@ ghost use Rattle.names.specs.Names.{first_item};
 ghost use Rattle.names.specs.Area.{Collected};
 
 use crate::walk::{first_item, start_of};
-use iso8211::field::{head_of, record_end};
+use iso8211::field::{Record, head_of, record_end};
 use items::identity::word_for;
 use words::put;
 
@@ -17,12 +17,15 @@ pub fn collect(s: &[u8], n: usize, update: bool, area: &mut [u8])
 {
     let first = first_item(update);
     let mut at = start_of(s, n, first);
-    let mut i: usize = 0;
-    while i < n - first {
+    for i in 0..n - first {
         let h = head_of(s, at);
-        let w = word_for(s, at, h);
+        let r = Record {
+            file: s,
+            at,
+            head: h,
+        };
+        let w = word_for(&r);
         put(area, i, w);
         at = record_end(s, at);
-        i += 1;
     }
 }

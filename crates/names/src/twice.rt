@@ -2,7 +2,7 @@
 ghost use Rattle.std.specs.Prelude.{◌-◌, ◌*◌, ◌≤◌, ◌≡◌, length};
 ghost use Rattle.words.specs.Words.{words_in};
 ghost use Rattle.words.specs.Order.{sorted};
-ghost use Rattle.names.specs.Names.{first_item, twice_of};
+ghost use Rattle.names.specs.Names.{first_item, twice_of, met_twice};
 ghost use Rattle.names.specs.Neighbours.{lower, least_repeat};
 ghost use Rattle.names.specs.NameWords.{name_words};
 ghost use Rattle.names.specs.Premises.{Readable};
@@ -11,9 +11,8 @@ use crate::walk::{first_item, record_from};
 use items::word;
 use words::get;
 
-// A record whose name an earlier record has: which it is, and where it starts; record 0: there is
-// none.
-#[derive(Drop)]
+// A record whose name an earlier record has: which it is, and where it starts.
+#[derive(Clone, Copy)]
 pub struct Repeat {
     pub index: usize,
     pub offset: usize,
@@ -26,10 +25,7 @@ fn lower_of(least: u64, left: u64, right: u64) -> u64
     if left / word::NAME_WEIGHT != right / word::NAME_WEIGHT {
         return least;
     }
-    if least <= right % word::NAME_WEIGHT {
-        return least;
-    }
-    right % word::NAME_WEIGHT
+    least.min(right % word::NAME_WEIGHT)
 }
 
 // The least place of a word, of the first m, whose left neighbour has its name; 16,777,216 where
@@ -43,32 +39,27 @@ fn least_repeat(area: &[u8], m: usize) -> u64
     }
     let mut least: u64 = word::NAME_WEIGHT;
     let mut left = get(area, 0);
-    let mut i: usize = 1;
-    while i < m {
+    for i in 1..m {
         let right = get(area, i);
         least = lower_of(least, left, right);
         left = right;
-        i += 1;
     }
     least
 }
 
-// The first record whose name an earlier one has. In the area are the words in held order: records of
+// The first record whose name an earlier one has, if there is one. In the area are the words in held order: records of
 // one name stand side by side there, in the file's order.
-pub fn twice(s: &[u8], n: usize, update: bool, area: &[u8]) -> Repeat
+pub fn twice(s: &[u8], n: usize, update: bool, area: &[u8]) -> Option<Repeat>
     requires { Readable update s.now n
         × (8 * (n - first_item update) ≤ length area.now)
         × (words_in area.now 0 (n - first_item update) ≡ sorted (name_words update s.now n)) }
-    ensures { result ≡ twice_of update s.now n }
+    ensures { result ≡ met_twice (twice_of update s.now n) }
 {
     let least = least_repeat(area, n - first_item(update));
     if least == word::NAME_WEIGHT {
-        return Repeat {
-            index: 0,
-            offset: 0,
-        };
+        return None;
     }
     let offset = least as usize;
     let index = record_from(s, n, offset);
-    Repeat { index, offset }
+    Some(Repeat { index, offset })
 }

@@ -6,3 +6,4 @@ pub mod AreaLaws
 pub mod DigitsLaws
 pub mod WidthLaws
 pub mod ListLaws
+pub mod PlaceLaws

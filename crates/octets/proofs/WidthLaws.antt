@@ -2,7 +2,6 @@
 use Rattle.std.proofs.Common.{◌≡◌, ℕ, zero, suc, ◌+◌, ◌-◌, ◌*◌, ◌%◌, ◌^◌, ◌<◌, ◌≤◌, Bool, true, false, cond, ◌||◌, ltb, List, sym, refl, ap, ◌∙◌, ⊎_elim, add-zero, add_assoc, mul_assoc, mul_comm, suc-add, pow-suc, zero-add, arith, ltb-false, le-leb}
 use Rattle.octets.specs.Number.{byte_at}
 use Rattle.octets.specs.Digits.{is_digit, none, digits_from, number_at}
-use Rattle.octets.specs.Premises.{Number, Sure}
 use Rattle.octets.proofs.Cases.{true_or_false}
 use Rattle.octets.proofs.Tests.{then_same, else_same}
 use Rattle.octets.specs.Told.{DigitTold, NumberTold, FiveTold}
@@ -99,13 +98,3 @@ five_so {s} {i} {a} {b} x y =
       told = λ few. let all = digits_join 2 3 s i a b (x.told (omega arith)) (omega arith) (y.told (omega arith)) (omega arith) in omega (arith, all);
       most = omega arith;
     }
-
--- ---- a width that is one of those told apart
-pub sure_width : (s : List ℕ) (i n m : ℕ) → Sure s i n → n ≡ m → Sure s i m
-sure_width s i n m sure e = rw e at sure
-
-pub number_width : (s : List ℕ) (i n m r : ℕ) → Number s i m r → n ≡ m → Number s i n r
-number_width s i n m r number e = rw e number
-
-pub width_is : (s : List ℕ) (i n m r : ℕ) → r ≡ number_at s i m → n ≡ m → r ≡ number_at s i n
-width_is s i n m r is e = rw e is

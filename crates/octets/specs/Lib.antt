@@ -2,6 +2,7 @@
 pub mod Number
 pub mod Digits
 pub mod Lists
+pub mod Place
 pub mod Premises
 pub mod Told
 pub mod Area

@@ -6,11 +6,7 @@ ghost use Rattle.octets.specs.Area.{Wrote};
 pub fn clear(area: &mut [u8])
     ensures { area.new ≡ replicate (length area.old) 0 }
 {
-    let mut i: usize = 0;
-    while i < area.len() {
-        area[i] = 0;
-        i += 1;
-    }
+    area.fill(0);
 }
 
 // All of `src`, into the area from `at` on; the answer is where it ends.
@@ -18,10 +14,7 @@ pub fn copy(src: &[u8], area: &mut [u8], at: usize) -> usize
     requires { at + length src.now ≤ length area.old }
     ensures { Wrote area.old at src.now area.new result }
 {
-    let mut i: usize = 0;
-    while i < src.len() {
-        area[at + i] = src[i];
-        i += 1;
-    }
-    at + src.len()
+    let end = at + src.len();
+    area[at..end].copy_from_slice(src);
+    end
 }

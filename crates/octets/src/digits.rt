@@ -16,17 +16,11 @@ pub fn get_digits(s: &[u8], at: usize, n: usize) -> u32
     ensures { Number s.now at n result }
 {
     let mut led: u32 = 0;
-    let mut k: usize = 0;
-    while k < n {
-        let b = wide(s[at + k]);
-        if b < 48 {
+    for &b in &s[at..at + n] {
+        if !b.is_ascii_digit() {
             return NONE;
         }
-        if 57 < b {
-            return NONE;
-        }
-        led = led * 10 + (b - 48);
-        k += 1;
+        led = led * 10 + (wide(b) - 48);
     }
     led
 }
@@ -37,10 +31,8 @@ pub fn sure_digits(s: &[u8], at: usize, n: usize) -> u32
     ensures { (result ≡ number_at s.now at n) × (result < none) }
 {
     let mut led: u32 = 0;
-    let mut k: usize = 0;
-    while k < n {
-        led = led * 10 + (wide(s[at + k]) - 48);
-        k += 1;
+    for &b in &s[at..at + n] {
+        led = led * 10 + (wide(b) - 48);
     }
     led
 }
@@ -52,11 +44,9 @@ pub fn put_digits(area: &mut [u8], at: usize, w: usize, v: u32) -> usize
     ensures { Wrote area.old at (digits_of w v) area.new result }
 {
     let mut left = v;
-    let mut c: usize = 0;
-    while c < w {
-        c += 1;
-        put1(area, at + (w - c), (48 + left % 10) as u8);
-        left = left / 10;
+    for k in (0..w).rev() {
+        put1(area, at + k, (48 + left % 10) as u8);
+        left /= 10;
     }
     at + w
 }
@@ -65,11 +55,5 @@ pub fn put_digits(area: &mut [u8], at: usize, w: usize, v: u32) -> usize
 pub fn fewest_digits(v: u32) -> usize
     ensures { (result ≡ fewest v) × ((1 ≤ result) × (result ≤ 10)) }
 {
-    let mut left = v;
-    let mut n: usize = 1;
-    while 9 < left {
-        left = left / 10;
-        n += 1;
-    }
-    n
+    v.max(1).ilog10() as usize + 1
 }

@@ -58,13 +58,11 @@ pub fn digits_at(s: &[u8], at: usize, n: usize) -> u32
     requires { (n ≤ 9) × (at + n ≤ length s.now) }
     ensures { Number s.now at n result }
 {
-    if n == 2 {
-        return get_digits(s, at, 2);
+    match n {
+        2 => get_digits(s, at, 2),
+        3 => get_digits(s, at, 3),
+        _ => get_digits(s, at, n),
     }
-    if n == 3 {
-        return get_digits(s, at, 3);
-    }
-    get_digits(s, at, n)
 }
 
 // The same as `sure_digits`, for widths that aren't known before.
@@ -72,11 +70,9 @@ pub fn sure_at(s: &[u8], at: usize, n: usize) -> u32
     requires { Sure s.now at n }
     ensures { (result ≡ number_at s.now at n) × (result < none) }
 {
-    if n == 2 {
-        return sure_digits(s, at, 2);
+    match n {
+        2 => sure_digits(s, at, 2),
+        3 => sure_digits(s, at, 3),
+        _ => sure_digits(s, at, n),
     }
-    if n == 3 {
-        return sure_digits(s, at, 3);
-    }
-    sure_digits(s, at, n)
 }

@@ -3,23 +3,22 @@ use Prim.Native.Nat.{ℕ, ◌+◌, ◌*◌, ◌≤◌}
 use mathlib.Core.List.{List}
 use mathlib.Core.Path.{◌≡◌, sym, ◌∙◌}
 use lib.ListN.{length}
+use Rattle.std.specs.Prelude.{Result, Ok, Err}
 use Rattle.iso8211.specs.File.{frame_of}
-use Rattle.iso8211.specs.declared.file.Framed.{Framed}
-use Rattle.iso8211.specs.declared.file.Framed.TheVariants.{Records, Broken}
 use Rattle.iso8211.proofs.Promise.{records_few, broken_few}
 use Rattle.probe.specs.Verdict.{verdict_of}
 
-module _ (s : List ℕ) (r : Framed) (n : ℕ) (is : r ≡ frame_of s) where
-  pub even_few : r ≡ Records n → n ≤ length s
+module _ (s : List ℕ) (r : Result ℕ ℕ) (n : ℕ) (is : r ≡ frame_of s) where
+  pub even_few : r ≡ Ok n → n ≤ length s
   even_few e = records_few s n (sym is ∙ e)
 
-  pub even : r ≡ Records n → 2 * n ≡ verdict_of (frame_of s)
+  pub even : r ≡ Ok n → 2 * n ≡ verdict_of (frame_of s)
   unfolding verdict_of
   even e = rw (← is, e)
 
-  pub odd_few : r ≡ Broken n → n ≤ length s
+  pub odd_few : r ≡ Err n → n ≤ length s
   odd_few e = broken_few s n (sym is ∙ e)
 
-  pub odd : r ≡ Broken n → 2 * n + 1 ≡ verdict_of (frame_of s)
+  pub odd : r ≡ Err n → 2 * n + 1 ≡ verdict_of (frame_of s)
   unfolding verdict_of
   odd e = rw (← is, e)

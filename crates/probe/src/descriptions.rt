@@ -7,9 +7,7 @@ use octets::number::put4;
 pub fn put_items(items: [u32; 32], out: &mut [u8])
     requires { length out.old ≡ 128 }
 {
-    let mut i: usize = 0;
-    while i < 32 {
-        put4(out, 4 * i, items[i]);
-        i += 1;
+    for (i, number) in items.iter().enumerate() {
+        put4(out, 4 * i, *number);
     }
 }

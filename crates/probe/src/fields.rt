@@ -1,12 +1,11 @@
 // A sum over the records and fields of a framed file, which changes with each number and with their
 // order.
-ghost use Rattle.std.specs.Prelude.{◌+◌, ◌*◌, ◌<◌, ◌≡◌};
+ghost use Rattle.std.specs.Prelude.{◌+◌, ◌*◌, ◌<◌, ◌≡◌, Ok};
 ghost use Rattle.iso8211.specs.File.{frame_of};
-ghost use Rattle.iso8211.specs.declared.file.Framed.TheVariants.{Records};
 ghost use Rattle.iso8211.specs.Premises.{RecordIn};
 
 use iso8211::Field;
-use iso8211::field::{field_at, head_of, record_end};
+use iso8211::field::{Record, head_of, record_end};
 
 // One number more.
 fn mix(sum: u64, number: u64) -> u64
@@ -32,30 +31,26 @@ fn mix_fields(file: &[u8], at: usize, sum: u64) -> u64
     ensures { result < 4294967296 }
 {
     let head = head_of(file, at);
-    let count = head.count;
+    let record = Record { file, at, head };
     let mut so = sum;
-    let mut k: usize = 0;
-    while k < count {
-        let field = field_at(file, at, head, k);
+    for k in 0..head.count {
+        let field = record.field(k);
         so = mix_field(so, field);
-        k += 1;
     }
     so
 }
 
 // The sum over the n records of a framed file.
 pub fn sum_records(file: &[u8], n: usize) -> u64
-    requires { frame_of file.now ≡ Records n }
+    requires { frame_of file.now ≡ Ok n }
 {
     let mut sum: u64 = 1;
     let mut at: usize = 0;
-    let mut k: usize = 0;
-    while k < n {
+    for k in 0..n {
         let end = record_end(file, at);
         sum = mix(sum, end as u64);
         sum = mix_fields(file, at, sum);
         at = end;
-        k += 1;
     }
     sum
 }

@@ -10,7 +10,6 @@ ghost use Rattle.probe.specs.Verdict.{verdict_of};
 
 use fieldparts::descriptive::cut;
 use formats::write_out;
-use iso8211::Framed;
 use iso8211::file::frame;
 
 pub mod descriptions;
@@ -23,18 +22,16 @@ pub mod read;
 pub extern "C" fn probe_frame(file: &[u8]) -> u64
     ensures { result ≡ verdict_of (frame_of file.now) }
 {
-    let framed = frame(file);
-    match framed {
-        Framed::Records(n) => 2 * n as u64,
-        Framed::Broken(k) => 2 * k as u64 + 1,
+    match frame(file) {
+        Ok(n) => 2 * n as u64,
+        Err(k) => 2 * k as u64 + 1,
     }
 }
 
 // A sum over all records and fields of a framed file, in order; 0 where it isn't framed.
 #[unsafe(no_mangle)]
 pub extern "C" fn probe_fields(file: &[u8]) -> u64 {
-    let framed = frame(file);
-    let Framed::Records(n) = framed else {
+    let Ok(n) = frame(file) else {
         return 0;
     };
     fields::sum_records(file, n)

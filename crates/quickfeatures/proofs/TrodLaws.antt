@@ -6,18 +6,16 @@ use mathlib.Core.Path.{◌≡◌, refl, sym, ap, ◌∙◌}
 use native.Mathlib.Omega.{arith}
 use lib.ListN.{length, take, drop, get_or, length-take, length-drop}
 use borrow.Author.Tests.{eq-eqb, ne_eqb}
+use Rattle.std.specs.Prelude.{Option, Some, None}
 use Rattle.octets.specs.Number.{byte_at}
 use Rattle.octets.proofs.Tests.{told_yes}
 use Rattle.words.specs.Words.{words_in}
 use Rattle.entries.specs.Rules.{all_of}
 use Rattle.lookups.specs.Lookup.{name_in}
 use Rattle.lookups.specs.LookupWords.{index_of}
-use Rattle.lookups.specs.declared.lookup.Found.{Found}
-use Rattle.lookups.specs.declared.lookup.Found.TheVariants.{At}
 use Rattle.vectorshape.specs.Shape.{spatial_good}
 use Rattle.pointer.specs.Pointer.{names_code}
 use Rattle.ring.specs.declared.step.Step.{Step}
-use Rattle.ring.specs.declared.step.Taken.TheVariants.{Edge}
 use Rattle.ring.specs.Ring.{step, usage_good, rings_from, rings_good}
 use Rattle.ring.specs.Walk.{node_at, taken_of, behind, named_and}
 use Rattle.ring.proofs.StepLaws.{step_back, step_forth}
@@ -27,16 +25,14 @@ use Rattle.spans.proofs.StrideLaws.{rest_end, rest_more}
 use Rattle.quickvectors.proofs.CoordinateLaws.{never}
 use Rattle.quickfeatures.specs.Quick.{SpatialTold}
 use Rattle.quickfeatures.specs.Trod.{TrodTold, TrodAt, area_sound, RingsTold}
-use Rattle.quickfeatures.specs.declared.trod.Trod.{Trod}
-use Rattle.quickfeatures.specs.declared.trod.Trod.TheVariants.{Along, Astray}
 
 -- ---- one FSPT
-pub trod_astray : (e work : List ℕ) (m v : ℕ) → TrodTold e work m v Astray
+pub trod_astray : (e work : List ℕ) (m v : ℕ) → TrodTold e work m v None
 unfolding TrodTold
 trod_astray e work m v = tt
 
-module _ (e work : List ℕ) (m : ℕ) (f : Found) (told : SpatialTold e 3 work m f) (i : ℕ) (here : f ≡ At i) where
-  placed : (spatial_good 3 e ≡ true) × (index_of (words_in work 0 m) (name_in e) ≡ At i) × (i < m)
+module _ (e work : List ℕ) (m : ℕ) (f : Option ℕ) (told : SpatialTold e 3 work m f) (i : ℕ) (here : f ≡ Some i) where
+  placed : (spatial_good 3 e ≡ true) × (index_of (words_in work 0 m) (name_in e) ≡ Some i) × (i < m)
   unfolding SpatialTold
   placed = rw here at told
 
@@ -45,25 +41,25 @@ module _ (e work : List ℕ) (m : ℕ) (f : Found) (told : SpatialTold e 3 work 
 
   -- w is the word of its ends
   module _ (v w a b u next : ℕ) (noted : w ≡ get_or (words_in work m v) i 0) (first : a ≡ w / 4294967296) (last : b ≡ w % 4294967296) (usage : u ≡ byte_at e 6) where
-    pub trod_back : byte_at e 5 ≡ 2 → TrodTold e work m v (Along (step b a u) next)
+    pub trod_back : byte_at e 5 ≡ 2 → TrodTold e work m v (Some (step b a u, next))
     unfolding TrodTold
     trod_back h =
-        (placed.0, step_back (words_in work 0 m) (words_in work m v) e (name_in e) (At i) refl (sym placed.1) i w a b u refl noted first last usage h)
+        (placed.0, step_back (words_in work 0 m) (words_in work m v) e (name_in e) (Some i) refl (sym placed.1) i w a b u refl noted first last usage h)
 
-    pub trod_forth : (byte_at e 5 ≡ 2 → ⊥) → TrodTold e work m v (Along (step a b u) next)
+    pub trod_forth : (byte_at e 5 ≡ 2 → ⊥) → TrodTold e work m v (Some (step a b u, next))
     unfolding TrodTold
     trod_forth ne =
-        (placed.0, step_forth (words_in work 0 m) (words_in work m v) e (name_in e) (At i) refl (sym placed.1) i w a b u refl noted first last usage ne)
+        (placed.0, step_forth (words_in work 0 m) (words_in work m v) e (name_in e) (Some i) refl (sym placed.1) i w a b u refl noted first last usage ne)
 
 -- ---- the FSPT at i
-pub at_astray : (s : List ℕ) (i to : ℕ) (work : List ℕ) (m v : ℕ) → TrodAt s i to work m v Astray
+pub at_astray : (s : List ℕ) (i to : ℕ) (work : List ℕ) (m v : ℕ) → TrodAt s i to work m v None
 unfolding TrodAt
 at_astray s i to work m v = tt
 
-pub at_told : (s : List ℕ) (i to : ℕ) (work : List ℕ) (m v : ℕ) (r : Trod) → 8 ≤ to - i → TrodTold (take (i + 8 - i) (drop i s)) work m v r → TrodAt s i to work m v r
+pub at_told : (s : List ℕ) (i to : ℕ) (work : List ℕ) (m v : ℕ) (r : Option (Step × ℕ)) → 8 ≤ to - i → TrodTold (take (i + 8 - i) (drop i s)) work m v r → TrodAt s i to work m v r
 unfolding TrodTold TrodAt
-at_told s i to work m v (Along t next) more told = (omega arith, told.0, told.1)
-at_told s i to work m v Astray more told = tt
+at_told s i to work m v (Some (t, next)) more told = (omega arith, told.0, told.1)
+at_told s i to work m v None more told = tt
 
 pub at_room : (s : List ℕ) (i to : ℕ) → to ≤ length s → 8 ≤ to - i → i + 8 ≤ length s
 at_room s i to within more = omega arith
@@ -100,9 +96,9 @@ unfolding area_sound all_of
 sound_more work m e es x y good named = rw (good, named)
 
 -- the step of the FSPT at i: r is the answer
-module _ (s : List ℕ) (to : ℕ) (work : List ℕ) (m v i : ℕ) (r : Trod) (trod : TrodAt s i to work m v r) (t : Step) (next : ℕ) (is : r ≡ Along t next) where
+module _ (s : List ℕ) (to : ℕ) (work : List ℕ) (m v i : ℕ) (r : Option (Step × ℕ)) (trod : TrodAt s i to work m v r) (t : Step) (next : ℕ) (is : r ≡ Some (t, next)) where
   stepped : (i + 8 ≤ to) × (spatial_good 3 (take (i + 8 - i) (drop i s)) ≡ true)
-      × (Edge t ≡ taken_of (index_of (words_in work 0 m)) (node_at (words_in work 0 m) (words_in work m v)) (take (i + 8 - i) (drop i s)))
+      × (Some t ≡ taken_of (index_of (words_in work 0 m)) (node_at (words_in work 0 m) (words_in work m v)) (take (i + 8 - i) (drop i s)))
   unfolding TrodAt
   stepped = rw is at trod
 
@@ -123,7 +119,7 @@ module _ (s : List ℕ) (from to : ℕ) (work : List ℕ) (m v : ℕ) (exterior 
 
 -- an edge is the first of its ring, or starts where the one before ended
 module _ (s : List ℕ) (from to : ℕ) (work : List ℕ) (m v : ℕ) (exterior begun : Bool) (home due i : ℕ) (b : Followed s from to work m v exterior begun home due i)
-    (r : Trod) (t : Step) (next : ℕ) (trod : TrodAt s i to work m v r) (is : r ≡ Along t next) where
+    (r : Option (Step × ℕ)) (t : Step) (next : ℕ) (trod : TrodAt s i to work m v r) (is : r ≡ Some (t, next)) where
   met : area_sound work m (rest_of 8 s (from) (to)) (rings_good (node_at (words_in work 0 m) (words_in work m v)) (rest_of 8 s (from) (to)))
       ≡ area_sound work m (take (i + 8 - i) (drop i s) ∷ rest_of 8 s (i + 8) to)
       (rings_from (node_at (words_in work 0 m) (words_in work m v)) exterior begun home due (take (i + 8 - i) (drop i s) ∷ rest_of 8 s (i + 8) to))
@@ -150,7 +146,7 @@ module _ (s : List ℕ) (from to : ℕ) (work : List ℕ) (m v : ℕ) (exterior 
       let got = stepped s to work m v i r trod t next is in
       inside start
       (rw (e, here)
-      (edge_first (index_of (words_in work 0 m)) (node_at (words_in work 0 m) (words_in work m v)) (take (i + 8 - i) (drop i s)) (rest_of 8 s (i + 8) to) (Edge t) got.2
+      (edge_first (index_of (words_in work 0 m)) (node_at (words_in work 0 m) (words_in work m v)) (take (i + 8 - i) (drop i s)) (rest_of 8 s (i + 8) to) (Some t) got.2
       t refl exterior))
 
   pub inside_on : (start : ℕ) → begun ≡ true → t.from ≡ due → start ≡ home → Inside s from to work m v exterior start t (i + 8)
@@ -158,7 +154,7 @@ module _ (s : List ℕ) (from to : ℕ) (work : List ℕ) (m v : ℕ) (exterior 
       let got = stepped s to work m v i r trod t next is in
       inside start
       (rw (e, same)
-      (edge_joined (index_of (words_in work 0 m)) (node_at (words_in work 0 m) (words_in work m v)) (take (i + 8 - i) (drop i s)) (rest_of 8 s (i + 8) to) (Edge t) got.2
+      (edge_joined (index_of (words_in work 0 m)) (node_at (words_in work 0 m) (words_in work m v)) (take (i + 8 - i) (drop i s)) (rest_of 8 s (i + 8) to) (Some t) got.2
       t refl exterior home due joined))
 
 module _ (s : List ℕ) (from to : ℕ) (work : List ℕ) (m v : ℕ) (exterior : Bool) (home : ℕ) (t : Step) (i : ℕ) (b : Inside s from to work m v exterior home t i)

@@ -1,6 +1,6 @@
 -- What the quick tests tell of a feature, each one way: where one says yes. It serves the proofs, and nothing here need be believed.
 -- Assumes nothing.
-use Rattle.std.specs.Prelude.{ℕ, ◌+◌, ◌-◌, ◌≤◌, ◌<◌, Bool, true, not, cond, ◌&&◌, List, ◌≡◌, length, take, drop, eqb}
+use Rattle.std.specs.Prelude.{ℕ, ◌+◌, ◌-◌, ◌≤◌, ◌<◌, Bool, true, not, cond, ◌&&◌, List, ◌≡◌, length, take, drop, eqb, Option, Some, None}
 use Rattle.words.specs.Words.{words_in}
 use Rattle.table.specs.Table.{FFPT}
 use Rattle.entries.specs.Entries.{entries_of}
@@ -9,8 +9,6 @@ use Rattle.layout.specs.Layout.{shape_of}
 use Rattle.items.specs.Item.{Item}
 use Rattle.lookups.specs.Lookup.{name_in}
 use Rattle.lookups.specs.LookupWords.{index_of}
-use Rattle.lookups.specs.declared.lookup.Found.{Found}
-use Rattle.lookups.specs.declared.lookup.Found.TheVariants.{At, Nothing}
 use Rattle.vectorshape.specs.Shape.{spatial_good, spatial_count}
 use Rattle.pointer.specs.Pointer.{names_code, lnams_code}
 use Rattle.pointer.specs.Premises.{held_foid}
@@ -21,9 +19,9 @@ use Rattle.spans.specs.declared.Span.{Span}
 use Rattle.quickvectors.specs.Quick.{Faultless}
 
 -- an FSPT that the primitive wants, and its index
-unfoldable pub SpatialTold : List ℕ → ℕ → List ℕ → ℕ → Found → Type 0
-SpatialTold e prim work m (At i) = (spatial_good prim e ≡ true) × (index_of (words_in work 0 m) (name_in e) ≡ At i) × (i < m)
-SpatialTold e prim work m Nothing = Unit {0}
+unfoldable pub SpatialTold : List ℕ → ℕ → List ℕ → ℕ → Option ℕ → Type 0
+SpatialTold e prim work m (Some i) = (spatial_good prim e ≡ true) × (index_of (words_in work 0 m) (name_in e) ≡ Some i) × (i < m)
+SpatialTold e prim work m None = Unit {0}
 
 -- all FSPT in the bytes from `from` up to `to` are wanted, and there
 pub record NamesTold (s : List ℕ) (from to prim : ℕ) (work : List ℕ) (m : ℕ) (r : Bool) : Type 0 where

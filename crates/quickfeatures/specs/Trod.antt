@@ -1,28 +1,26 @@
 -- The walk along an area's edges that also judges each FSPT. It serves the proofs, and nothing here need be believed. Assumes nothing.
-use Rattle.std.specs.Prelude.{ℕ, ◌+◌, ◌-◌, ◌≤◌, Bool, true, ◌&&◌, List, ◌≡◌, take, drop}
+use Rattle.std.specs.Prelude.{ℕ, ◌+◌, ◌-◌, ◌≤◌, Bool, true, ◌&&◌, List, ◌≡◌, take, drop, Option, Some, None}
 use Rattle.words.specs.Words.{words_in}
 use Rattle.entries.specs.Rules.{all_of}
 use Rattle.lookups.specs.LookupWords.{index_of}
 use Rattle.vectorshape.specs.Shape.{spatial_good}
+use Rattle.ring.specs.declared.step.Step.{Step}
 use Rattle.ring.specs.Ring.{rings_good}
 use Rattle.ring.specs.Walk.{node_at, taken_of, named_and}
-use Rattle.ring.specs.declared.step.Taken.TheVariants.{Edge}
 use Rattle.spans.specs.Spans.{rest_of}
-use Rattle.quickfeatures.specs.declared.trod.Trod.{Trod}
-use Rattle.quickfeatures.specs.declared.trod.Trod.TheVariants.{Along, Astray}
 
 -- a step along an FSPT that an area wants
-unfoldable pub TrodTold : List ℕ → List ℕ → ℕ → ℕ → Trod → Type 0
-TrodTold e work m v (Along t next) =
-    (spatial_good 3 e ≡ true) × (Edge t ≡ taken_of (index_of (words_in work 0 m)) (node_at (words_in work 0 m) (words_in work m v)) e)
-TrodTold e work m v Astray = Unit {0}
+unfoldable pub TrodTold : List ℕ → List ℕ → ℕ → ℕ → Option (Step × ℕ) → Type 0
+TrodTold e work m v (Some (t, next)) =
+    (spatial_good 3 e ≡ true) × (Some t ≡ taken_of (index_of (words_in work 0 m)) (node_at (words_in work 0 m) (words_in work m v)) e)
+TrodTold e work m v None = Unit {0}
 
 -- that of the FSPT at i
-unfoldable pub TrodAt : List ℕ → ℕ → ℕ → List ℕ → ℕ → ℕ → Trod → Type 0
-TrodAt s i to work m v (Along t next) =
+unfoldable pub TrodAt : List ℕ → ℕ → ℕ → List ℕ → ℕ → ℕ → Option (Step × ℕ) → Type 0
+TrodAt s i to work m v (Some (t, next)) =
     (i + 8 ≤ to) × (spatial_good 3 (take (i + 8 - i) (drop i s)) ≡ true)
-    × (Edge t ≡ taken_of (index_of (words_in work 0 m)) (node_at (words_in work 0 m) (words_in work m v)) (take (i + 8 - i) (drop i s)))
-TrodAt s i to work m v Astray = Unit {0}
+    × (Some t ≡ taken_of (index_of (words_in work 0 m)) (node_at (words_in work 0 m) (words_in work m v)) (take (i + 8 - i) (drop i s)))
+TrodAt s i to work m v None = Unit {0}
 
 -- every FSPT is wanted and there, and the rings are good
 unfoldable pub area_sound : List ℕ → ℕ → List (List ℕ) → Bool → Bool

@@ -13,7 +13,7 @@ ghost use Rattle.names.specs.Premises.{Noted};
 ghost use Rattle.spans.specs.Spans.{Reached, SpanIn};
 ghost use Rattle.quickfeatures.specs.Quick.{SpatialsTold, Drawn};
 
-use iso8211::field::Head;
+use iso8211::field::Record;
 use lnams::lnams_quick;
 use lookups::starts::Starts;
 use octets::number::{get1, get2};
@@ -69,9 +69,7 @@ fn spatials_quick(
 
 // Whether the feature at `at` has no fault: its identifier field starts at `id`, field 3 at `due`.
 pub fn feature_quick(
-    s: &[u8],
-    at: usize,
-    h: Head,
+    r: &Record,
     id: usize,
     due: usize,
     work: &[u8],
@@ -79,16 +77,17 @@ pub fn feature_quick(
     v: usize,
     starts: Starts,
 ) -> bool
-    requires { Reached s.now at h 3 due × Identified s.now at × (id ≡ id_at s.now at) × (rcnm_at s.now at ≡ 100) × Noted work.now m v }
-    ensures { Drawn work.now m v (item_at s.now at) result }
+    requires { Reached r.now.file.now r.now.at r.now.head 3 due × Identified r.now.file.now r.now.at
+        × (id ≡ id_at r.now.file.now r.now.at) × (rcnm_at r.now.file.now r.now.at ≡ 100) × Noted work.now m v }
+    ensures { Drawn work.now m v (item_at r.now.file.now r.now.at) result }
 {
-    let sp = two_spans_of(s, at, h, 3, due, tags::FFPT, tags::FSPT);
+    let sp = two_spans_of(r, 3, due, tags::FFPT, tags::FSPT);
     let related = sp.one;
     let spatial = sp.two;
-    let prim = get1(s, id + offsets::FRID_PRIM);
-    let collection = is_collection(get2(s, id + offsets::FRID_OBJL));
-    if !spatials_quick(s, spatial, prim, collection, work, m, v, starts) {
+    let prim = get1(r.file, id + offsets::FRID_PRIM);
+    let collection = is_collection(get2(r.file, id + offsets::FRID_OBJL));
+    if !spatials_quick(r.file, spatial, prim, collection, work, m, v, starts) {
         return false;
     }
-    lnams_quick(s, related, work, m, v)
+    lnams_quick(r.file, related, work, m, v)
 }

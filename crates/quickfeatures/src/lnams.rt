@@ -69,6 +69,7 @@ fn lnams_held(part: &[u8], work: &[u8], m: usize, v: usize) -> bool
     let shape = shape_of(kinds::FFPT);
     let lie = lie_of(work, m, v);
     let mut at: usize = 0;
+    // A loop: the step is the entry's own length, which also tells where the entries end.
     loop {
         let n = entry_len_at(part, at, shape);
         if n == 0 {

@@ -4,7 +4,7 @@ ghost use Rattle.std.specs.Prelude.{◌≤◌, length};
 ghost use Rattle.names.specs.Premises.{Noted};
 ghost use Rattle.quickfeatures.specs.Trod.{RingsTold};
 
-use crate::trod::{Trod, trod_at};
+use crate::trod::trod_at;
 use lookups::starts::Starts;
 use ring::usage_good;
 use table::sizes;
@@ -28,36 +28,35 @@ pub fn rings_quick(
     let mut exterior = true;
     let mut near = m;
     let mut i = from;
-    'rings: loop {
-        if to - i < sizes::FSPT {
-            return true;
-        }
+    // A while: a turn takes a whole ring.
+    while sizes::FSPT <= to - i {
         let mut begun = false;
         let mut home: u32 = 0;
         let mut due: u32 = 0;
+        // A loop: a ring has as many edges as it takes to come back to where it began.
         loop {
-            let Trod::Along(t, next) = trod_at(s, i, to, work, m, v, near, starts) else {
-                break 'rings;
+            let Some((t, next)) = trod_at(s, i, to, work, m, v, near, starts) else {
+                return false;
             };
             if begun {
                 if t.from != due {
-                    break 'rings;
+                    return false;
                 }
             } else {
                 home = t.from;
             }
             if !usage_good(exterior, t.usage) {
-                break 'rings;
+                return false;
             }
             due = t.to;
             begun = true;
             near = next;
             i += sizes::FSPT;
             if due == home {
-                exterior = false;
-                continue 'rings;
+                break;
             }
         }
+        exterior = false;
     }
-    false
+    true
 }

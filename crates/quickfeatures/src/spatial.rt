@@ -3,7 +3,7 @@ ghost use Rattle.std.specs.Prelude.{◌≤◌, ◌<◌, length};
 ghost use Rattle.names.specs.Premises.{Noted};
 ghost use Rattle.quickfeatures.specs.Quick.{SpatialTold, NamesTold};
 
-use lookups::lookup::{Found, index_near, name_in};
+use lookups::lookup::{index_near, name_in};
 use lookups::starts::{Starts, start_for};
 use shape::spatial::spatial_good;
 use table::sizes;
@@ -18,12 +18,12 @@ fn spatial_near(
     v: usize,
     near: usize,
     starts: Starts,
-) -> Found
+) -> Option<usize>
     requires { (8 ≤ length e.now) × Noted work.now m v }
     ensures { SpatialTold e.now prim work.now m result }
 {
     if !spatial_good(e, prim) {
-        return Found::Nothing;
+        return None;
     }
     let name = name_in(e);
     let start = start_for(starts, name);
@@ -53,14 +53,11 @@ pub fn names_quick(
     ensures { NamesTold s.now from to prim work.now m result }
 {
     let mut near = m;
-    let mut i = from;
-    while sizes::FSPT <= to - i {
-        let end = i + sizes::FSPT;
-        let Found::At(place) = spatial_near(&s[i..end], prim, work, m, v, near, starts) else {
+    for e in s[from..to].chunks_exact(sizes::FSPT) {
+        let Some(place) = spatial_near(e, prim, work, m, v, near, starts) else {
             return false;
         };
         near = index_behind(place, m);
-        i = end;
     }
     true
 }

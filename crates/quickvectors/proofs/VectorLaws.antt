@@ -1,5 +1,5 @@
 -- Laws of a vector that the quick tests pass. Assumes nothing.
-use Rattle.std.proofs.Common.{◌≡◌, ℕ, ◌+◌, ◌-◌, ◌/◌, ◌≤◌, Bool, true, false, not, eqb, leb, ◌⊎◌, List, [], ◌∷◌, length, take, drop, sym, refl, ap, ◌∙◌, inl, inr, ⊎_elim, arith, length-drop, length-take, eq-eqb, ne_eqb, eqb-true, le-leb, leb-true}
+use Rattle.std.proofs.Common.{◌≡◌, ℕ, ◌+◌, ◌-◌, ◌/◌, ◌≤◌, Bool, true, false, not, eqb, leb, ◌⊎◌, List, [], ◌∷◌, length, take, drop, sym, refl, ap, ◌∙◌, inl, inr, ⊎_elim, arith, length-drop, length-take, eq-eqb, ne_eqb, eqb-true, le-leb, leb-true, Option, Some, None, is_some}
 use Rattle.octets.specs.Number.{byte_at}
 use Rattle.octets.specs.Premises.{Reads}
 use Rattle.octets.proofs.Cases.{eq_or_ne}
@@ -16,8 +16,6 @@ use Rattle.items.proofs.IdentityLaws.{num_one}
 use Rattle.items.proofs.ItemLaws.{vrpt_said, sg2d_said, sg3d_said}
 use Rattle.lookups.specs.Lookup.{name_in, found_code}
 use Rattle.lookups.specs.LookupWords.{index_of}
-use Rattle.lookups.specs.declared.lookup.Found.{Found}
-use Rattle.lookups.specs.declared.lookup.Found.TheVariants.{At}
 use Rattle.lookups.proofs.LookupLaws.{code_at}
 use Rattle.vectorshape.specs.Shape.{pair_good, coordinates_good, isolated_good, connected_good, end_good, add_topi, edge_good, class_good, vector_good, shape_good, shape_code}
 use Rattle.pointer.specs.Pointer.{names_code, pointer_code}
@@ -74,12 +72,13 @@ paired_told a b p q x y first begins last ends topi next = record {
 }
 
 -- is_held
-pub held_no : (e work : List ℕ) (m : ℕ) → HeldTold e work m false
-held_no e work m = record { is = λ (h : false ≡ true). never h }
+held_code : (f : Option ℕ) (q : Bool) → is_some f ≡ q → q ≡ true → found_code f ≡ 0
+held_code (Some i) q is h = code_at i
+held_code None q is h = never (is ∙ h)
 
-pub held_told : (e work : List ℕ) (m n : ℕ) (f : Found) (i : ℕ) → n ≡ name_in e → f ≡ index_of (words_in work 0 m) n → f ≡ At i → HeldTold e work m true
-held_told e work m n f i named found here = record {
-  is = λ (h : true ≡ true). ap found_code (ap (index_of (words_in work 0 m)) (sym named) ∙ sym found ∙ here) ∙ code_at i;
+pub held_told : (e work : List ℕ) (m n : ℕ) (f : Option ℕ) (q : Bool) → n ≡ name_in e → f ≡ index_of (words_in work 0 m) n → is_some f ≡ q → HeldTold e work m q
+held_told e work m n f q named found is = record {
+  is = λ (h : q ≡ true). ap found_code (ap (index_of (words_in work 0 m)) (sym named) ∙ sym found) ∙ held_code f q is h;
 }
 
 -- ends_held

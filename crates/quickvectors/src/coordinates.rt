@@ -42,12 +42,10 @@ fn pairs_within(part: &[u8], size: usize, comf: u32) -> bool
 {
     let n = part.len() / size;
     let mut out = false;
-    let mut k: usize = 0;
-    while k < n {
+    for k in 0..n {
         let i = entry_start(part, size, k);
         let end = i + size;
-        out = out | pair_beyond(&part[i..end], comf);
-        k += 1;
+        out |= pair_beyond(&part[i..end], comf);
     }
     !out
 }

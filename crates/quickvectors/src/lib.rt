@@ -12,7 +12,7 @@ ghost use Rattle.words.specs.Words.{words_in};
 ghost use Rattle.quickvectors.specs.Quick.{NodeTold, PairedTold, HeldTold, EndsTold, EdgeTold, VectorIn, NamesIn, VectorTold, NodeIn, WordlessTold};
 
 use coordinates::{list_within, pair_beyond};
-use lookups::lookup::{Found, index_near, name_in};
+use lookups::lookup::{index_near, name_in};
 use octets::number::get1;
 use spans::{Span, Spans};
 use table::sizes;
@@ -63,10 +63,7 @@ fn is_held(e: &[u8], work: &[u8], m: usize, start: usize) -> bool
     requires { (9 ≤ length e.now) × NamesIn work.now m }
     ensures { HeldTold e.now work.now m result }
 {
-    let Found::At(_node) = index_near(work, 0, m, name_in(e), m, start) else {
-        return false;
-    };
-    true
+    index_near(work, 0, m, name_in(e), m, start).is_some()
 }
 
 // Whether both hold of the two pointers of an edge.

@@ -3,7 +3,6 @@
 ghost use Rattle.std.specs.Prelude.{◌+◌, ◌-◌, ◌≤◌, ◌<◌, ◌++◌, ◌≡◌, length, take};
 ghost use Rattle.octets.specs.Area.{Wrote};
 ghost use Rattle.iso8211.specs.Field.{field_at};
-ghost use Rattle.iso8211.specs.Premises.{HeadOf};
 ghost use Rattle.items.specs.Identity.{id_at, version_at};
 ghost use Rattle.records.specs.Written.{head_bytes};
 ghost use Rattle.itemrows.specs.Joined.{list_rows, sum_of, Small};
@@ -11,7 +10,7 @@ ghost use Rattle.raising.specs.Record.{vector_head, feature_head, version_bytes,
 ghost use Rattle.items.specs.Premises.{LaidOut, Identified, Featured};
 ghost use Rattle.table.specs.Offsets.{VRID_RVER, FRID_RVER};
 
-use iso8211::field::{Head, field_at};
+use iso8211::field::Record;
 use itemrows::lead::{feature_rows, put_lead, vector_rows};
 use itemrows::rows::{count_of, list_rows, sum_of};
 use items::identity::version_of;
@@ -53,65 +52,69 @@ fn put_version(out: &mut [u8], at: usize, v: u32) -> usize
 }
 
 // 0001 and n bytes of the identifier field, those before RVER, then the rest of it.
-fn put_identity(cell: &[u8], at: usize, h: Head, n: usize, room: &mut [u8], place: usize) -> usize
-    requires { LaidOut cell.now at × HeadOf cell.now at h × Identified cell.now at × (version_at cell.now at < 65535)
-        × (id_at cell.now at + n ≤ length cell.now) × (place + (7 + n) ≤ length room.old) }
-    ensures { Wrote room.old place (id_front cell.now at n (version_at cell.now at + 1)) room.new result
+fn put_identity(cell: &Record, n: usize, room: &mut [u8], place: usize) -> usize
+    requires { LaidOut cell.now.file.now cell.now.at × Identified cell.now.file.now cell.now.at × (version_at cell.now.file.now cell.now.at < 65535)
+        × (id_at cell.now.file.now cell.now.at + n ≤ length cell.now.file.now) × (place + (7 + n) ≤ length room.old) }
+    ensures { Wrote room.old place (id_front cell.now.file.now cell.now.at n (version_at cell.now.file.now cell.now.at + 1)) room.new result
         × (result ≡ place + (7 + n)) }
 {
-    let v = version_of(cell, at, h);
-    let f = field_at(cell, at, h, 1);
+    let v = version_of(cell);
+    let f = cell.field(1);
     let from = f.start;
-    let a = put_lead(cell, from, n, room, place, 0);
+    let a = put_lead(cell.file, from, n, room, place, 0);
     put_version(room, a, v + 1)
 }
 
 // Where the eight bytes of FOID stand.
-fn foid_place(cell: &[u8], at: usize, h: Head) -> usize
-    requires { HeadOf cell.now at h × Featured cell.now at }
-    ensures { (result ≡ (field_at cell.now at 2).start) × (result + 8 ≤ length cell.now) }
+fn foid_place(cell: &Record) -> usize
+    requires { Featured cell.now.file.now cell.now.at }
+    ensures { (result ≡ (field_at cell.now.file.now cell.now.at 2).start) × (result + 8 ≤ length cell.now.file.now) }
 {
-    let f = field_at(cell, at, h, 2);
+    let f = cell.field(2);
     f.start
 }
 
 // FOID with its 1E, as it stands.
-fn put_foid(cell: &[u8], at: usize, h: Head, room: &mut [u8], place: usize) -> usize
-    requires { HeadOf cell.now at h × Featured cell.now at × (place + 9 ≤ length room.old) }
-    ensures { Wrote room.old place (foid_bytes cell.now at) room.new result × (result ≡ place + 9) }
+fn put_foid(cell: &Record, room: &mut [u8], place: usize) -> usize
+    requires { Featured cell.now.file.now cell.now.at × (place + 9 ≤ length room.old) }
+    ensures { Wrote room.old place (foid_bytes cell.now.file.now cell.now.at) room.new result × (result ≡ place + 9) }
 {
-    let from = foid_place(cell, at, h);
+    let from = foid_place(cell);
     let to = from + 8;
-    let a = copy(&cell[from..to], room, place);
+    let a = copy(&cell.file[from..to], room, place);
     put1(room, a, 30)
 }
 
 // All that stands before the lists of a vector.
-pub fn put_vector(cell: &[u8], at: usize, h: Head, totals: [u32; 4], room: &mut [u8]) -> usize
-    requires { LaidOut cell.now at × HeadOf cell.now at h × Identified cell.now at × (version_at cell.now at < 65535) × Small totals
+pub fn put_vector(cell: &Record, totals: [u32; 4], room: &mut [u8]) -> usize
+    requires { LaidOut cell.now.file.now cell.now.at × Identified cell.now.file.now cell.now.at
+        × (version_at cell.now.file.now cell.now.at < 65535) × Small totals
         × (256 ≤ length room.old) }
-    ensures { Wrote room.old result (vector_head totals ++ id_front cell.now at VRID_RVER (version_at cell.now at + 1)) room.new 256
+    ensures { Wrote room.old result (vector_head totals ++ id_front cell.now.file.now cell.now.at VRID_RVER
+        (version_at cell.now.file.now cell.now.at + 1)) room.new 256
         × (1 ≤ result) }
 {
     let rows = vector_rows();
     let tags = [tags::ATTV, tags::VRPT, tags::SG2D, tags::SG3D];
     let place = put_heading(1, 12, rows, tags, totals, room);
-    put_identity(cell, at, h, offsets::VRID_RVER, room, 244);
+    put_identity(cell, offsets::VRID_RVER, room, 244);
     place
 }
 
 // All that stands before the lists of a feature.
-pub fn put_feature(cell: &[u8], at: usize, h: Head, totals: [u32; 4], room: &mut [u8]) -> usize
-    requires { LaidOut cell.now at × HeadOf cell.now at h × Identified cell.now at × Featured cell.now at × (version_at cell.now at < 65535) × Small totals
+pub fn put_feature(cell: &Record, totals: [u32; 4], room: &mut [u8]) -> usize
+    requires { LaidOut cell.now.file.now cell.now.at × Identified cell.now.file.now cell.now.at × Featured cell.now.file.now cell.now.at
+        × (version_at cell.now.file.now cell.now.at < 65535) × Small totals
         × (256 ≤ length room.old) }
     ensures { Wrote room.old result
-        (feature_head totals ++ (id_front cell.now at FRID_RVER (version_at cell.now at + 1) ++ foid_bytes cell.now at)) room.new 256
+        (feature_head totals ++ (id_front cell.now.file.now cell.now.at FRID_RVER
+        (version_at cell.now.file.now cell.now.at + 1) ++ foid_bytes cell.now.file.now cell.now.at)) room.new 256
         × (1 ≤ result) }
 {
     let rows = feature_rows();
     let tags = [tags::ATTF, tags::NATF, tags::FFPT, tags::FSPT];
     let place = put_heading(2, 25, rows, tags, totals, room);
-    let a = put_identity(cell, at, h, offsets::FRID_RVER, room, 231);
-    put_foid(cell, at, h, room, a);
+    let a = put_identity(cell, offsets::FRID_RVER, room, 231);
+    put_foid(cell, room, a);
     place
 }

@@ -16,11 +16,13 @@ use Rattle.names.specs.Premises.{Readable, HeldIn}
 use Rattle.reader.specs.Reader.{cell_fault, update_fault, both_checked, both_fault}
 use Rattle.reader.proofs.ReaderLaws.{update_good, cell_good}
 use Rattle.answers.specs.declared.refusal.Refusal.{Refusal}
-use Rattle.answers.specs.Answer.{filed}
+use Rattle.answers.specs.Answer.{answer, filed, outcome, answer_of}
+use Rattle.std.specs.Prelude.{Result, Ok, Err}
 use Rattle.reader.specs.Lent.{FileOpened, BothOpened, ComeIn, BothIn}
 use Rattle.answers.specs.declared.answer.Answer.{Answer}
 use Rattle.answers.proofs.FirstLaws.{first_told}
-use Rattle.answers.proofs.AnswerLaws.{filed_told, filed_kept, filed_first, filed_on}
+use Rattle.answers.proofs.AnswerLaws.{filed_some, filed_told, filed_first, filed_on}
+use Rattle.answers.proofs.OutcomeLaws.{none_of, some_of, fine_is, answer_told}
 use Rattle.readboth.proofs.CallLaws.{worked_on}
 
 -- ---- what is lent
@@ -62,29 +64,31 @@ module _ (s ys : List ℕ) (i n : ℕ) (fit : 8 * (i + n) ≤ length s) (long : 
   part_front = take_put (8 * i) (length s - 8 * i) s ys (omega arith)
 
 -- ---- the codes of both
-module _ (cell update : List ℕ) (n m : ℕ) (a : Answer) (r : Refusal) (q : r ≡ cell_fault cell n) where
-  pub first_cell : (r.code ≡ 0 → ⊥) → a ≡ filed 1 r → a ≡ both_fault cell n update m
-  first_cell h e = rw (← q) (filed_first 1 r (filed 2 (update_fault update m)) a h e)
+module _ (cell update : List ℕ) (n m : ℕ) (a : Answer) {q : Result Unit Refusal} (is : q ≡ outcome (cell_fault cell n)) where
+  pub first_cell : {r : Refusal} → q ≡ Err r → a ≡ answer r.code 1 r.index 0 r.offset → a ≡ both_fault cell n update m
+  first_cell {r} h e = let p = some_of _ is h in rw (← p.0) (filed_first 1 r (filed 2 (update_fault update m)) a p.1 (filed_some 1 r a p.1 e))
 
-  pub first_update : (u : Refusal) → r.code ≡ 0 → u ≡ update_fault update m → a ≡ filed 2 u → a ≡ both_fault cell n update m
-  first_update u z v e = rw (← q) (filed_on 1 r (filed 2 (update_fault update m)) a z (e ∙ ap (filed 2) v))
+  pub first_update : {u : Unit} {v : Result Unit Refusal} → q ≡ Ok u → v ≡ outcome (update_fault update m) → a ≡ answer_of 2 v → a ≡ both_fault cell n update m
+  first_update h v e = filed_on 1 (cell_fault cell n) (filed 2 (update_fault update m)) a (none_of _ is h) (e ∙ answer_told 2 _ v)
 
 -- a refusal promises no words
-pub both_none : {cell update work : List ℕ} {n m : ℕ} (a : Answer) (file : ℕ) (r : Refusal) → (r.code ≡ 0 → ⊥) → a ≡ filed file r → a.code ≡ 0 → BothIn cell n update m work
-both_none a file r h e z = absurd (filed_kept file r a h e z)
+pub both_none : {cell update work : List ℕ} {n m : ℕ} (a : Answer) (file : ℕ) {q : Result Unit Refusal} {r : Refusal} → q ≡ outcome (cell_fault cell n) → q ≡ Err r
+    → a ≡ answer r.code file r.index 0 r.offset → a.code ≡ 0 → BothIn cell n update m work
+both_none a file {r = r} is h e z = absurd ((some_of _ is h).1 (ap (λ (x : Answer). x.code) (sym e) ∙ z))
 
 -- the cell's words stay while the update is read: w is the work area before that, x after it
-module _ (cell update w x : List ℕ) (n m a b : ℕ) (ea : a ≡ n - 3) (eb : b ≡ m - 2) (r u : Refusal) (z : r.code ≡ 0)
-    (held : r.code ≡ 0 → words_in w (a + b) (n - 3) ≡ sorted (name_words false cell n)) (front : take (8 * (a + b + a)) x ≡ take (8 * (a + b + a)) w)
-    (come : u.code ≡ 0 → words_in x (a + b + a) (m - 2) ≡ sorted (name_words true update m)) where
-  both_in : u.code ≡ 0 → BothIn cell n update m x
-  both_in y = record {
-    held = rw (← ea, ← eb) (words_front x w (a + b + a) (a + b) a front (omega arith) ∙ rw (← ea) at (held z));
-    come = rw (← ea, ← eb) (rw (← eb) at (come y));
+module _ (cell update w x : List ℕ) (n m a b : ℕ) (ea : a ≡ n - 3) (eb : b ≡ m - 2)
+    (held : words_in w (a + b) (n - 3) ≡ sorted (name_words false cell n)) (front : take (8 * (a + b + a)) x ≡ take (8 * (a + b + a)) w) where
+  both_in : words_in x (a + b + a) (m - 2) ≡ sorted (name_words true update m) → BothIn cell n update m x
+  both_in come = record {
+    held = rw (← ea, ← eb) (words_front x w (a + b + a) (a + b) a front (omega arith) ∙ rw (← ea) at held);
+    come = rw (← ea, ← eb) (rw (← eb) at come);
   }
 
-  pub both_words : (k : Answer) → k ≡ filed 2 u → k.code ≡ 0 → BothIn cell n update m x
-  both_words k e y = both_in (filed_told 2 u (ap (λ (q : Answer). q.code) (sym e) ∙ y))
+  pub both_words : {v : Result Unit Refusal} (k : Answer) → v ≡ outcome (update_fault update m) → (v ≡ Ok tt → words_in x (a + b + a) (m - 2) ≡ sorted (name_words true update m))
+      → k ≡ answer_of 2 v → k.code ≡ 0 → BothIn cell n update m x
+  both_words k is come e z =
+      both_in (come (fine_is _ is (filed_told 2 (update_fault update m) (ap (λ (q : Answer). q.code) (sym (e ∙ answer_told 2 _ is)) ∙ z))))
 
 -- ---- out of no refusal of both
 pub both_apart : (cell : List ℕ) (n : ℕ) (update : List ℕ) (m : ℕ) → (both_fault cell n update m).code ≡ 0 → ((cell_fault cell n).code ≡ 0) × ((update_fault update m).code ≡ 0)

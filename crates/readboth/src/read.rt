@@ -6,11 +6,11 @@ ghost use Rattle.reader.specs.Calls.{read_cell, read_both};
 
 use crate::both::both_fault;
 use answers::Answer;
-use answers::answer::{answered, filed};
+use answers::answer::{answer_of, answered};
 use answers::codes::{WORK, WORK_EACH};
 use octets::area::clear;
 use reader::fault::cell_fault;
-use reader::front::{Front, opened};
+use reader::front::opened;
 
 // A framed cell of n records: code 3, then 4 to 8.
 fn cell_checked(cell: &[u8], n: usize, work: &mut [u8]) -> Answer
@@ -20,7 +20,7 @@ fn cell_checked(cell: &[u8], n: usize, work: &mut [u8]) -> Answer
     if work.len() < WORK_EACH * n {
         return answered(WORK, 0, 0, WORK_EACH * n, 0);
     }
-    filed(1, cell_fault(cell, n, work))
+    answer_of(1, cell_fault(cell, n, work))
 }
 
 // Whether a cell is readable. The work area is zero afterwards.
@@ -28,18 +28,12 @@ pub fn read_cell(cell: &[u8], work: &mut [u8]) -> Answer
     ensures value { result ≡ read_cell cell.now (length work.old) }
     ensures work_after { work.new ≡ replicate (length work.old) 0 }
 {
-    let front = opened(cell, 1);
-    match front {
-        Front::Refused(a) => {
-            clear(work);
-            a
-        }
-        Front::Count(n) => {
-            let a = cell_checked(cell, n, work);
-            clear(work);
-            a
-        }
-    }
+    let a = match opened(cell, 1) {
+        Ok(n) => cell_checked(cell, n, work),
+        Err(a) => a,
+    };
+    clear(work);
+    a
 }
 
 // A framed cell of n records and a framed update of m: code 3, then 4 to 8 of the cell, then 4 to 7
@@ -59,10 +53,9 @@ fn update_opened(cell: &[u8], n: usize, update: &[u8], work: &mut [u8]) -> Answe
     requires { FileOpened cell.now n }
     ensures { result ≡ opening 2 update.now (λ (m : ℕ). both_checked cell.now update.now (length work.old) n m) }
 {
-    let front = opened(update, 2);
-    match front {
-        Front::Refused(a) => a,
-        Front::Count(m) => both_checked(cell, update, n, m, work),
+    match opened(update, 2) {
+        Ok(m) => both_checked(cell, update, n, m, work),
+        Err(a) => a,
     }
 }
 
@@ -71,16 +64,10 @@ pub fn read_both(cell: &[u8], update: &[u8], work: &mut [u8]) -> Answer
     ensures value { result ≡ read_both cell.now update.now (length work.old) }
     ensures work_after { work.new ≡ replicate (length work.old) 0 }
 {
-    let front = opened(cell, 1);
-    match front {
-        Front::Refused(a) => {
-            clear(work);
-            a
-        }
-        Front::Count(n) => {
-            let a = update_opened(cell, n, update, work);
-            clear(work);
-            a
-        }
-    }
+    let a = match opened(cell, 1) {
+        Ok(n) => update_opened(cell, n, update, work),
+        Err(a) => a,
+    };
+    clear(work);
+    a
 }

@@ -1,6 +1,6 @@
 -- Laws of reading whole: what a file without a refusal of codes 4 to 6 gives to those who read its names and counts, and the answers in
 -- order. Assumes nothing.
-use Prim.Native.Nat.{ℕ, suc, ◌+◌, ◌-◌, ◌≤◌, ◌<◌}
+use Prim.Native.Nat.{ℕ, ◌+◌, ◌-◌, ◌≤◌, ◌<◌}
 use mathlib.Core.Bool.{Bool, true, false, not, ◌||◌}
 use mathlib.Core.List.{List}
 use mathlib.Core.Logic.{⊎_elim, ◌⊎◌, inl, inr}
@@ -10,6 +10,7 @@ use native.Mathlib.Omega.{arith}
 use lib.ListN.{length}
 use lib.Dec.{eqb}
 use borrow.Author.Tests.{eq-eqb, ne_eqb, eqb-true}
+use Rattle.std.specs.Prelude.{Result, Ok, Err, Option, Some, None}
 use Rattle.octets.proofs.ListLaws.{part_byte, part_number}
 use Rattle.headvalues.specs.Dspm.{most_comf}
 use Rattle.octets.specs.Number.{byte_at, num_at}
@@ -19,7 +20,6 @@ use Rattle.iso8211.specs.Record.{end_of}
 use Rattle.iso8211.specs.Field.{field_at}
 use Rattle.iso8211.specs.Premises.{RecordIn}
 use Rattle.iso8211.specs.File.{frame_of, record_at}
-use Rattle.iso8211.specs.declared.file.Framed.TheVariants.{Records}
 use Rattle.iso8211.proofs.Promise.{record_in, fields_in, at_next, at_first}
 use Rattle.table.specs.Table.{VRID, FRID, DSPM}
 use Rattle.values.specs.Vrid.{is_vector}
@@ -37,15 +37,17 @@ use Rattle.words.specs.Words.{words_in}
 use Rattle.words.specs.Order.{sorted}
 use Rattle.names.specs.NameWords.{name_words}
 use Rattle.names.specs.Premises.{Readable, HeldIn}
-use Rattle.names.specs.Names.{first_item, twice_of}
+use Rattle.names.specs.Names.{first_item, twice_of, met_twice}
+use Rattle.names.proofs.TwiceLaws.{met_none, met_some}
 use Rattle.counted.specs.Counts.{counts_good}
 use Rattle.names.proofs.ReadableLaws.{dssi_there, dspm_there}
 use Rattle.names.specs.declared.twice.Repeat.{Repeat}
 use Rattle.reader.specs.Reader.{twice_refusal, counts_refusal, cell_fault, update_fault}
 use Rattle.layout.specs.General.{comf_at}
-use Rattle.answers.specs.Answer.{refusal}
+use Rattle.answers.specs.Answer.{refusal, outcome}
 use Rattle.answers.specs.First.{first_by}
-use Rattle.answers.proofs.FirstLaws.{first_told, first_stays}
+use Rattle.answers.proofs.FirstLaws.{first_told}
+use Rattle.answers.proofs.OutcomeLaws.{fine_told, made_told, told_first}
 use Rattle.answers.specs.declared.refusal.Refusal.{Refusal}
 use Rattle.reader.specs.Lent.{ComeIn}
 
@@ -120,7 +122,7 @@ module _ {update : Bool} {marks s : List ℕ} {at : ℕ} (known : RecordIn s at)
       (eq_or_ne fine.state.stage 2)
 
 -- record k of a file in which nothing was refused
-module _ (update : Bool) (s : List ℕ) (n k : ℕ) (framed : frame_of s ≡ Records n) (less : k < n) (here : Here update (described_of s) s k) where
+module _ (update : Bool) (s : List ℕ) (n k : ℕ) (framed : frame_of s ≡ Ok n) (less : k < n) (here : Here update (described_of s) s k) where
   at_record : RecordIn s (record_at s k)
   at_record = record_in s n k (record_at s k) framed less refl
 
@@ -128,7 +130,7 @@ module _ (update : Bool) (s : List ℕ) (n k : ℕ) (framed : frame_of s ≡ Rec
   item_here two = (out_here at_record here.good, identified at_record here.good two here.stage.few)
 
 -- all of them
-readable_items : (update : Bool) (s : List ℕ) (n : ℕ) → frame_of s ≡ Records n → ((j : ℕ) → 1 ≤ j → j < n → Here update (described_of s) s j)
+readable_items : (update : Bool) (s : List ℕ) (n : ℕ) → frame_of s ≡ Ok n → ((j : ℕ) → 1 ≤ j → j < n → Here update (described_of s) s j)
     → (k : ℕ) → first_item update ≤ k → k < n → LaidOut s (record_at s k) × Identified s (record_at s k)
 unfolding first_item
 readable_items true s n framed here k low less =
@@ -144,7 +146,7 @@ unfolding first_item
 first_few true n cell two = two
 first_few false n cell two = cell refl
 
-pub readable : (update : Bool) (s : List ℕ) (n : ℕ) → frame_of s ≡ Records n → length s ≤ 5242880 → (read_fault update s n).code ≡ 0 → Readable update s n
+pub readable : (update : Bool) (s : List ℕ) (n : ℕ) → frame_of s ≡ Ok n → length s ≤ 5242880 → (read_fault update s n).code ≡ 0 → Readable update s n
 readable update s n framed short none =
     let g = good_records update s n framed none in
     record {
@@ -155,7 +157,7 @@ readable update s n framed short none =
     }
 
 -- DSSI of a cell
-pub dssi_read : (s : List ℕ) (n : ℕ) → frame_of s ≡ Records n → (read_fault false s n).code ≡ 0 → DssiThere s
+pub dssi_read : (s : List ℕ) (n : ℕ) → frame_of s ≡ Ok n → (read_fault false s n).code ≡ 0 → DssiThere s
 dssi_read s n framed none =
     let g = good_records false s n framed none in
     let two = g.1.1 in
@@ -169,7 +171,7 @@ factor_read : (s : List ℕ) → num_at s ((field_at s (record_at s 2) 1).start 
 unfolding comf_at
 factor_read s h = h
 
-pub dspm_read : (s : List ℕ) (n : ℕ) → frame_of s ≡ Records n → (read_fault false s n).code ≡ 0 → DspmThere s
+pub dspm_read : (s : List ℕ) (n : ℕ) → frame_of s ≡ Ok n → (read_fault false s n).code ≡ 0 → DspmThere s
 dspm_read s n framed none =
     let g = good_records false s n framed none in
     let three = g.1.0 refl in
@@ -205,45 +207,35 @@ update_parts s n z =
     let a = first_told (λ (r : Refusal). r.code) (read_fault true s n) (twice_refusal (twice_of true s n)) z in
     (a.0, twice_none (twice_of true s n) a.2)
 
-pub cell_good : (s : List ℕ) (n : ℕ) → frame_of s ≡ Records n → length s ≤ 5242880 → (cell_fault s n).code ≡ 0 → Readable false s n
+pub cell_good : (s : List ℕ) (n : ℕ) → frame_of s ≡ Ok n → length s ≤ 5242880 → (cell_fault s n).code ≡ 0 → Readable false s n
 cell_good s n framed short z = readable false s n framed short (cell_parts s n z).0
 
-pub cell_comf : (s : List ℕ) (n : ℕ) → frame_of s ≡ Records n → (cell_fault s n).code ≡ 0 → DspmThere s
+pub cell_comf : (s : List ℕ) (n : ℕ) → frame_of s ≡ Ok n → (cell_fault s n).code ≡ 0 → DspmThere s
 cell_comf s n framed z = dspm_read s n framed (cell_parts s n z).0
 
-pub update_good : (s : List ℕ) (n : ℕ) → frame_of s ≡ Records n → length s ≤ 5242880 → (update_fault s n).code ≡ 0 → Readable true s n
+pub update_good : (s : List ℕ) (n : ℕ) → frame_of s ≡ Ok n → length s ≤ 5242880 → (update_fault s n).code ≡ 0 → Readable true s n
 update_good s n framed short z = readable true s n framed short (update_parts s n z).0
 
 -- ---- cell_fault and update_fault: one law for each way out
-module _ (s : List ℕ) (n : ℕ) (r : Refusal) (is : r ≡ read_fault false s n) where
-  pub cell_read : (r.code ≡ 0 → ⊥) → r ≡ cell_fault s n
-  unfolding cell_fault
-  cell_read h = is ∙ sym (first_stays (λ (q : Refusal). q.code) (read_fault false s n) _ (λ z. h (ap (λ (q : Refusal). q.code) is ∙ z)))
+pub cell_read : (s : List ℕ) (n : ℕ) {r : Result Unit Refusal} {a : Refusal} → r ≡ outcome (read_fault false s n) → r ≡ Err a → Err a ≡ outcome (cell_fault s n)
+unfolding cell_fault
+cell_read s n e h = told_first (read_fault false s n) _ e h
 
-  pub cell_none : r.code ≡ 0 → (read_fault false s n).code ≡ 0
-  cell_none z = ap (λ (q : Refusal). q.code) (sym is) ∙ z
+module _ (s : List ℕ) (n : ℕ) (none : (read_fault false s n).code ≡ 0) {r : Option Repeat} (told : r ≡ met_twice (twice_of false s n)) where
+  pub cell_twice : {t : Repeat} (a : Refusal) → r ≡ Some t → a ≡ refusal 7 t.index t.offset → Err a ≡ outcome (cell_fault s n)
+  unfolding cell_fault twice_refusal first_by
+  cell_twice a h e = let p = met_some _ told h in made_told e (e ∙ rw (p.0, eq-eqb _ _ none, ne_eqb _ _ p.1))
 
-  module _ (z : r.code ≡ 0) (t : Repeat) (told : t ≡ twice_of false s n) where
-    pub cell_twice : (a : Refusal) → (t.index ≡ 0 → ⊥) → a ≡ refusal 7 t.index t.offset → a ≡ cell_fault s n
-    unfolding cell_fault twice_refusal first_by
-    cell_twice a h e = e ∙ rw (eq-eqb _ _ (cell_none z), ← told, ne_eqb _ _ h)
+  module _ (once : r ≡ None) (q : Bool) (counted : q ≡ counts_good s n) where
+    pub cell_counts : (a : Refusal) (p : ℕ) → not q ≡ true → p ≡ end_of s 0 → a ≡ refusal 8 1 p → Err a ≡ outcome (cell_fault s n)
+    unfolding cell_fault twice_refusal counts_refusal first_by
+    cell_counts a p h at e =
+        made_told e
+        (e ∙ ap (refusal 8 1) (at ∙ at_next s 0 0 (sym (at_first s))) ∙ rw (eq-eqb _ _ none, eq-eqb _ _ (met_none _ told once), told_no q (counts_good s n) counted h))
 
-    module _ (once : t.index ≡ 0) (q : Bool) (counted : q ≡ counts_good s n) where
-      pub cell_counts : (a : Refusal) (p : ℕ) → not q ≡ true → p ≡ end_of s 0 → a ≡ refusal 8 1 p → a ≡ cell_fault s n
-      unfolding cell_fault twice_refusal counts_refusal first_by
-      cell_counts a p h at e =
-          e ∙ ap (refusal 8 1) (at ∙ at_next s 0 0 (sym (at_first s))) ∙ rw (eq-eqb _ _ (cell_none z), ← told, eq-eqb _ _ once, told_no q (counts_good s n) counted h)
-
-      pub cell_fine : (a : Refusal) → not q ≡ false → a ≡ refusal 0 0 0 → a ≡ cell_fault s n
-      unfolding cell_fault twice_refusal counts_refusal first_by
-      cell_fine a h e = e ∙ rw (eq-eqb _ _ (cell_none z), ← told, eq-eqb _ _ once, told_yes q (counts_good s n) counted h)
-
--- the words are promised where there is no refusal
-pub held_refused : {s work : List ℕ} {n : ℕ} (a : Refusal) (k i p : ℕ) → a ≡ refusal (suc k) i p → a.code ≡ 0 → HeldIn s n work
-held_refused a k i p e z = absurd (let same : suc k ≡ 0 = sym (ap (λ (q : Refusal). q.code) e) ∙ z in omega arith)
-
-pub come_refused : {s work : List ℕ} {n : ℕ} (a : Refusal) (k i p : ℕ) → a ≡ refusal (suc k) i p → a.code ≡ 0 → ComeIn s n work
-come_refused a k i p e z = absurd (let same : suc k ≡ 0 = sym (ap (λ (q : Refusal). q.code) e) ∙ z in omega arith)
+    pub cell_fine : not q ≡ false → Ok tt ≡ outcome (cell_fault s n)
+    unfolding cell_fault twice_refusal counts_refusal first_by
+    cell_fine h = fine_told (cell_fault s n) (rw (eq-eqb _ _ none, eq-eqb _ _ (met_none _ told once), told_yes q (counts_good s n) counted h) refl)
 
 pub come_words : {s work : List ℕ} {n : ℕ} → words_in work 0 (n - first_item true) ≡ sorted (name_words true s n) → ComeIn s n work
 unfolding first_item
@@ -253,19 +245,15 @@ pub held_words : {s work : List ℕ} {n : ℕ} → words_in work 0 (n - first_it
 unfolding first_item
 held_words e = record { words = e }
 
-module _ (s : List ℕ) (n : ℕ) (r : Refusal) (is : r ≡ read_fault true s n) where
-  pub update_read : (r.code ≡ 0 → ⊥) → r ≡ update_fault s n
-  unfolding update_fault
-  update_read h = is ∙ sym (first_stays (λ (q : Refusal). q.code) (read_fault true s n) _ (λ z. h (ap (λ (q : Refusal). q.code) is ∙ z)))
+pub update_read : (s : List ℕ) (n : ℕ) {r : Result Unit Refusal} {a : Refusal} → r ≡ outcome (read_fault true s n) → r ≡ Err a → Err a ≡ outcome (update_fault s n)
+unfolding update_fault
+update_read s n e h = told_first (read_fault true s n) _ e h
 
-  pub update_none : r.code ≡ 0 → (read_fault true s n).code ≡ 0
-  update_none z = ap (λ (q : Refusal). q.code) (sym is) ∙ z
+module _ (s : List ℕ) (n : ℕ) (none : (read_fault true s n).code ≡ 0) {r : Option Repeat} (told : r ≡ met_twice (twice_of true s n)) where
+  pub update_twice : {t : Repeat} (a : Refusal) → r ≡ Some t → a ≡ refusal 7 t.index t.offset → Err a ≡ outcome (update_fault s n)
+  unfolding update_fault twice_refusal first_by
+  update_twice a h e = let p = met_some _ told h in made_told e (e ∙ rw (p.0, eq-eqb _ _ none, ne_eqb _ _ p.1))
 
-  module _ (z : r.code ≡ 0) (t : Repeat) (told : t ≡ twice_of true s n) where
-    pub update_twice : (a : Refusal) → (t.index ≡ 0 → ⊥) → a ≡ refusal 7 t.index t.offset → a ≡ update_fault s n
-    unfolding update_fault twice_refusal first_by
-    update_twice a h e = e ∙ rw (eq-eqb _ _ (update_none z), ← told, ne_eqb _ _ h)
-
-    pub update_fine : (a : Refusal) → t.index ≡ 0 → a ≡ refusal 0 0 0 → a ≡ update_fault s n
-    unfolding update_fault twice_refusal first_by
-    update_fine a once e = e ∙ rw (eq-eqb _ _ (update_none z), ← told, eq-eqb _ _ once)
+  pub update_fine : r ≡ None → Ok tt ≡ outcome (update_fault s n)
+  unfolding update_fault twice_refusal first_by
+  update_fine once = fine_told (update_fault s n) (rw (eq-eqb _ _ none, eq-eqb _ _ (met_none _ told once)) refl)

@@ -1,17 +1,14 @@
 -- What is known of an opened file and of the work area that is lent with it, and what reading leaves there. It serves the proofs, and nothing here need be
 -- believed. Assumes nothing.
-use Rattle.std.specs.Prelude.{ℕ, suc, ◌+◌, ◌-◌, ◌*◌, ◌≤◌, true, false, List, ◌≡◌, length}
+use Rattle.std.specs.Prelude.{ℕ, suc, ◌+◌, ◌-◌, ◌*◌, ◌≤◌, true, false, List, ◌≡◌, length, Ok, Result, Err}
 use Rattle.answers.specs.Codes.{most_bytes, work_each}
 use Rattle.answers.specs.declared.answer.Answer.{Answer}
 use Rattle.iso8211.specs.Record.{record_good, end_of}
 use Rattle.iso8211.specs.File.{framed_from, frame_of, record_at}
-use Rattle.iso8211.specs.declared.file.Framed.TheVariants.{Records}
 use Rattle.words.specs.Words.{words_in}
 use Rattle.words.specs.Order.{sorted}
 use Rattle.names.specs.NameWords.{name_words}
 use Rattle.reader.specs.Reader.{front_of}
-use Rattle.reader.specs.declared.front.Start.{Start}
-use Rattle.reader.specs.declared.front.Front.{Front}
 
 -- a file that is not too long and whose record 0, which ends at x, is good
 pub record StartedAt (s : List ℕ) (x : ℕ) : Type 0 where
@@ -20,9 +17,9 @@ pub record StartedAt (s : List ℕ) (x : ℕ) : Type 0 where
   pub ends : x ≡ end_of s 0
 
 -- r is where record 1 starts, or the refusal of the file
-pub record StartTold (file : ℕ) (s : List ℕ) (r : Start) : Type 0 where
-  pub starts : (x : ℕ) → r ≡ Start.At x → StartedAt s x
-  pub refused : (a : Answer) → r ≡ Start.Refused a → front_of file s ≡ Front.Refused a
+pub record StartTold (file : ℕ) (s : List ℕ) (r : Result ℕ Answer) : Type 0 where
+  pub starts : (x : ℕ) → r ≡ Ok x → StartedAt s x
+  pub refused : (a : Answer) → r ≡ Err a → front_of file s ≡ Err a
 
 -- the records before record k, which starts at `at`, are good: k records are all, or the verdict from there is that of the file
 pub record FramedTo (s : List ℕ) (k at : ℕ) : Type 0 where
@@ -30,17 +27,17 @@ pub record FramedTo (s : List ℕ) (k at : ℕ) : Type 0 where
   pub below : k ≤ at
   pub fits : at ≤ length s
   pub place : at ≡ record_at s k
-  pub done : at ≡ length s → frame_of s ≡ Records k
+  pub done : at ≡ length s → frame_of s ≡ Ok k
   pub more : (at ≡ length s → ⊥) → frame_of s ≡ framed_from (suc (length s - k)) s at k
 
 -- a framed file of n records that is not too long
 pub record FileOpened (s : List ℕ) (n : ℕ) : Type 0 where
-  pub framed : frame_of s ≡ Records n
+  pub framed : frame_of s ≡ Ok n
   pub short : length s ≤ most_bytes
 
 -- and 8 bytes of work for each: as many as its names want
 pub record NamesLent (s : List ℕ) (n : ℕ) (work : List ℕ) : Type 0 where
-  pub framed : frame_of s ≡ Records n
+  pub framed : frame_of s ≡ Ok n
   pub short : length s ≤ most_bytes
   pub room : 8 * n ≤ length work
 

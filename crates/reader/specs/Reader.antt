@@ -1,14 +1,10 @@
 -- Reading whole: from the bytes of a cell, or of a cell and an update, to "readable" or the one refusal. Assumes nothing.
-use Rattle.std.specs.Prelude.{ℕ, ◌+◌, ◌*◌, true, false, cond, List, length, eqb, ltb}
+use Rattle.std.specs.Prelude.{ℕ, ◌+◌, ◌*◌, true, false, cond, List, length, eqb, ltb, Result, Ok, Err}
 use Rattle.iso8211.specs.File.{frame_of, record_at}
-use Rattle.iso8211.specs.declared.file.Framed.{Framed}
-use Rattle.iso8211.specs.declared.file.Framed.TheVariants.{Records, Broken}
 use Rattle.chart.specs.Read.{read_fault}
 use Rattle.names.specs.Names.{twice_of}
 use Rattle.counted.specs.Counts.{counts_good}
 use Rattle.names.specs.declared.twice.Repeat.{Repeat}
-use Rattle.reader.specs.declared.front.Front.{Front}
-use Rattle.reader.specs.declared.front.Front.TheVariants.{Count, Refused}
 use Rattle.answers.specs.Codes.{LONG, FRAME, WORK, TWICE, COUNTS, most_bytes, work_each}
 use Rattle.answers.specs.Answer.{refusal, fine, answer, unrefused, filed}
 use Rattle.answers.specs.First.{first_refusal, first_answer}
@@ -17,27 +13,27 @@ use Rattle.answers.specs.declared.answer.Answer.{Answer}
 
 -- ---- a file is opened
 -- 2 Frame, "framing broken", "first bad record"; how many records there are else
-unfoldable pub framed_front : ℕ → List ℕ → Framed → Front
-framed_front file s (Records n) = Count n
-framed_front file s (Broken k) = Refused (answer FRAME file k 0 (record_at s k))
+unfoldable pub framed_front : ℕ → List ℕ → Result ℕ ℕ → Result ℕ Answer
+framed_front file s (Ok n) = Ok n
+framed_front file s (Err k) = Err (answer FRAME file k 0 (record_at s k))
 
 -- 1 Long, "over 5,242,880 bytes", then 2
-unfoldable pub front_of : ℕ → List ℕ → Front
-front_of file s = cond (ltb most_bytes (length s)) (Refused (answer LONG file 0 0 0)) (framed_front file s (frame_of s))
+unfoldable pub front_of : ℕ → List ℕ → Result ℕ Answer
+front_of file s = cond (ltb most_bytes (length s)) (Err (answer LONG file 0 0 0)) (framed_front file s (frame_of s))
 
 -- what comes of a file that was refused, or of its number of records
-unfoldable pub fronted : {A : Type 0} → (Answer → A) → (ℕ → A) → Front → A
-fronted refused on (Count n) = on n
-fronted refused on (Refused a) = refused a
+unfoldable pub fronted : {A : Type 0} → (Answer → A) → (ℕ → A) → Result ℕ Answer → A
+fronted refused on (Ok n) = on n
+fronted refused on (Err a) = refused a
 
 -- "cell 1, 2" or "update 1, 2" of this file, then what comes on, given the number of its records
 abbrev pub opening : ℕ → List ℕ → (ℕ → Answer) → Answer
 opening file s on = fronted (λ (a : Answer). a) on (front_of file s)
 
 -- how many records a file has, 0 where it is too long or its framing is broken
-unfoldable pub records_in : Front → ℕ
-records_in (Count n) = n
-records_in (Refused a) = 0
+unfoldable pub records_in : Result ℕ Answer → ℕ
+records_in (Ok n) = n
+records_in (Err a) = 0
 
 -- of a cell
 abbrev pub count_in : List ℕ → ℕ

@@ -9,60 +9,42 @@ use answers::answer::answered;
 use answers::codes::{FRAME, LONG, MOST_BYTES};
 use iso8211::record::good_end;
 
-// Where record 1 of a file starts, or the refusal.
-#[derive(Drop)]
-pub enum Start {
-    At(usize),
-    Refused(Answer),
-}
-
-// How many records a file has, or the refusal.
-#[derive(Drop)]
-pub enum Front {
-    Count(usize),
-    Refused(Answer),
-}
-
-// Code 1, and code 2 of record 0.
-pub fn started(s: &[u8], file: u32) -> Start
+// Code 1, and code 2 of record 0: where record 1 starts, or the refusal.
+pub fn started(s: &[u8], file: u32) -> Result<usize, Answer>
     ensures { StartTold file s.now result }
 {
     if MOST_BYTES < s.len() {
-        return Start::Refused(answered(LONG, file, 0, 0, 0));
+        return Err(answered(LONG, file, 0, 0, 0));
     }
-    let end = good_end(s, 0, true);
-    if end == 0 {
-        return Start::Refused(answered(FRAME, file, 0, 0, 0));
-    }
-    Start::At(end)
+    let Some(end) = good_end(s, 0, true) else {
+        return Err(answered(FRAME, file, 0, 0, 0));
+    };
+    Ok(end)
 }
 
 // Code 2 of a file whose records before one, not record 0, are known to be good: that one is record
-// `first`, and it starts at `start`.
-pub fn opened_from(s: &[u8], file: u32, first: usize, start: usize) -> Front
+// `first`, and it starts at `start`. The number of all records, or the refusal.
+pub fn opened_from(s: &[u8], file: u32, first: usize, start: usize) -> Result<usize, Answer>
     requires { FramedTo s.now first start × (length s.now ≤ most_bytes) }
     ensures { result ≡ front_of file s.now }
 {
     let mut at = start;
     let mut k = first;
+    // A while: the step is the record's own length.
     while at < s.len() {
-        let end = good_end(s, at, false);
-        if end == 0 {
-            return Front::Refused(answered(FRAME, file, k, 0, at));
-        }
+        let Some(end) = good_end(s, at, false) else {
+            return Err(answered(FRAME, file, k, 0, at));
+        };
         at = end;
         k += 1;
     }
-    Front::Count(k)
+    Ok(k)
 }
 
-// A file opened: codes 1 and 2.
-pub fn opened(s: &[u8], file: u32) -> Front
+// A file opened, codes 1 and 2: how many records it has, or the refusal.
+pub fn opened(s: &[u8], file: u32) -> Result<usize, Answer>
     ensures { result ≡ front_of file s.now }
 {
-    let start = started(s, file);
-    match start {
-        Start::Refused(a) => Front::Refused(a),
-        Start::At(at) => opened_from(s, file, 1, at),
-    }
+    let at = started(s, file)?;
+    opened_from(s, file, 1, at)
 }

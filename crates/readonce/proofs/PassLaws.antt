@@ -14,19 +14,19 @@ use Rattle.iso8211.proofs.FileLaws.{end_past}
 use Rattle.iso8211.proofs.Promise.{good_in}
 use Rattle.attributes.specs.Premises.{Upto}
 use Rattle.declarations.specs.Described.{described_of}
-use Rattle.declarations.specs.Premises.{marks_of}
-use Rattle.declarations.specs.declared.marks.Described.{Described}
 use Rattle.layout.specs.Record.{kind_at}
+use Rattle.std.specs.Prelude.{Ok}
+use Rattle.values.proofs.FaultLaws.{place_ok}
 use Rattle.fieldvalue.specs.Judged.{RecordJudged}
 use Rattle.items.specs.Identity.{id_at}
 use Rattle.items.specs.Premises.{Identified}
-use Rattle.answers.specs.Answer.{refusal}
+use Rattle.answers.proofs.OutcomeLaws.{none_of}
 use Rattle.answers.specs.declared.refusal.Refusal.{Refusal}
 use Rattle.chart.specs.Read.{next_stage, is_feature, passed_state, first_state, records_fault, read_fault}
 use Rattle.chart.specs.Before.{RecordPassed, start_at}
 use Rattle.chart.specs.declared.read.Reached.{Reached}
 use Rattle.chart.specs.declared.read.State.{State}
-use Rattle.chart.proofs.ReadLaws.{Reading, reading_start, reading_on, reading_end, passing_of, marks_same, marks_some, read_start, read_first}
+use Rattle.chart.proofs.ReadLaws.{Reading, reading_start, reading_on, reading_end, passing_of, marks_some, read_start, read_first}
 use Rattle.names.specs.Names.{first_item}
 use Rattle.names.specs.NameWords.{words_from, name_words}
 use Rattle.names.specs.Area.{Collected}
@@ -143,7 +143,7 @@ module _ {update : Bool} {marks s area t now : List ℕ} {c : Tally} {k at : ℕ
 
   -- what is asked to go on from it
   pub turn_passed : RecordPassed s at st.stage
-  turn_passed = passing_of update st.stage marks s at 0 turn_record (sym (told.laid some)) refl
+  turn_passed = passing_of update st.stage marks s at turn_record (told.laid some)
 
   pub turn_kind : f.kind ≡ kind_at s at 1
   turn_kind = told.kinded some
@@ -167,15 +167,15 @@ module _ {update : Bool} {marks s area t now : List ℕ} {c : Tally} {k at : ℕ
       let few : k - first_item update ≤ 5242880 = let below = so.framed.below in let fits = so.framed.fits in omega arith in
       rw so.tally (most_more few most)
 
-  judged : RecordJudged update st.aall st.nall s at t after 0
-  judged = record { fault = λ u. sym (told.valued some u); upto = told.upto some; within = omega arith }
+  judged : RecordJudged update st.aall st.nall s at t after (Ok tt)
+  judged = record { fault = λ u. place_ok (told.valued some u); upto = told.upto some; within = tt }
 
   pub turn_on : at < length s → (first : ℕ) → first ≡ first_item update → {later : List ℕ} {r : Bool} → Kept s at k first now later r → not r ≡ false
       → {d : Tally} → Counted s at k first c d → (next : State) → next ≡ passed_state update s at st → Passing update marks s area after later d (k + 1) f.end next
   turn_on inside first is {later} {r} kept room {d} counted next moved =
       record {
         framed = framed_next so.framed inside f.end (told.good some) (told.ends some) told.within;
-        reading = λ n h. reading_on (so.reading n (omega arith)) (omega arith) 0 (sym (told.laid some)) refl judged refl next f.end moved (told.ends some);
+        reading = λ n h. reading_on (so.reading n (omega arith)) (omega arith) (told.laid some) judged refl next f.end moved (told.ends some);
         staged = staged_on update s at k st next so.staged so.framed.low moved;
         tally = (rw is at counted).grown so.framed.place so.tally;
         kept = (rw is at kept).grown (not-false r room) so.framed.place area so.kept;
@@ -189,7 +189,7 @@ module _ {update : Bool} {marks s area t now : List ℕ} {c : Tally} {k at : ℕ
       let fits = so.framed.fits in
       record {
         framed = so.framed.done (omega arith);
-        none = ap (λ (r : Refusal). r.code) (sym (reading_end (so.reading k (le_refl k)) (le_refl k) (refusal 0 0 0) two refl));
+        none = none_of _ (reading_end (so.reading k (le_refl k)) (le_refl k) two) refl;
         tally = so.tally;
         words = so.kept;
       }
@@ -219,12 +219,11 @@ file_not {update} {s} {start = start} from r so is found = rw (found, is) (recor
 pub before_records : (s : List ℕ) (start : ℕ) (marks t : List ℕ) → StartedAt s start → length marks ≡ 20 → (length t ≡ 65536) × Upto t 0 → RecordsBefore s start marks t
 before_records s start marks t so twenty blank = record { started = so; twenty = twenty; wide = blank.0; blank = blank.1 }
 
-pub file_told : {update : Bool} {s area now : List ℕ} {start : ℕ} (d : Described) (r : Passed) → StartedAt s start → marks_of d ≡ described_of s → length d.marks ≡ 20
-    → not d.good ≡ false → RecordsTold update d.marks s area now r → FileTold update s area now r
-file_told {update} {s} d r started marks twenty good so =
-    let same = marks_same s d marks good in
-    let some = marks_some s d marks good twenty in
-    let from_start : (n : ℕ) → read_fault update s n ≡ records_fault (n - 1) update d.marks s 1 (record_at s 1) first_state = λ n. rw (← same) (read_start update s n some) in
+pub file_told : {update : Bool} {s area now : List ℕ} {start : ℕ} (marks : List ℕ) (r : Passed) → StartedAt s start → marks ≡ described_of s → length marks ≡ 20
+    → RecordsTold update marks s area now r → FileTold update s area now r
+file_told {update} {s} marks r started same twenty so =
+    let some = marks_some s marks same twenty in
+    let from_start : (n : ℕ) → read_fault update s n ≡ records_fault (n - 1) update marks s 1 (record_at s 1) first_state = λ n. rw same (read_start update s n some) in
     record {
       told = λ there.
           let all = so.told there in
@@ -241,7 +240,7 @@ file_told {update} {s} d r started marks twenty good so =
           low = so.came.framed.low;
           high = h;
           place = so.came.framed.place;
-          is = λ there. rw same (from_start n ∙ so.came.read n h);
+          is = λ there. rw (← same) (from_start n ∙ so.came.read n h);
         };
       };
     }

@@ -1,9 +1,8 @@
 -- What a pass over a file promises. It serves the proofs, and nothing here need be believed. Assumes nothing.
-use Rattle.std.specs.Prelude.{ℕ, ◌+◌, ◌-◌, ◌*◌, ◌≤◌, Bool, true, false, List, ◌≡◌, length}
+use Rattle.std.specs.Prelude.{ℕ, ◌+◌, ◌-◌, ◌*◌, ◌≤◌, Bool, true, false, List, ◌≡◌, length, Ok, Result, Err}
 use Rattle.answers.specs.Codes.{most_bytes, work_each}
 use Rattle.answers.specs.declared.answer.Answer.{Answer}
 use Rattle.iso8211.specs.File.{frame_of, record_at}
-use Rattle.iso8211.specs.declared.file.Framed.TheVariants.{Records}
 use Rattle.attributes.specs.Premises.{Upto}
 use Rattle.chart.specs.Read.{records_fault, first_state, read_fault}
 use Rattle.chart.specs.Before.{ReadTo}
@@ -16,12 +15,9 @@ use Rattle.names.specs.Premises.{HeldIn}
 use Rattle.reader.specs.Reader.{front_of, cell_fault}
 use Rattle.reader.specs.Calls.{read_cell}
 use Rattle.reader.specs.Lent.{StartedAt, FramedTo}
-use Rattle.reader.specs.declared.front.Front.TheVariants.{Count}
 use Rattle.counted.specs.Tallies.{with_records}
 use Rattle.counted.specs.declared.counts.Tally.{Tally}
 use Rattle.readonce.specs.declared.pass.Passed.{Passed}
-use Rattle.readonce.specs.declared.cell.Read.{Read}
-use Rattle.readonce.specs.declared.cell.Read.TheVariants.{All, Refused}
 
 -- with the word of record k, at `at`, the area holds the words of the items up to it
 pub record Kept (s : List ℕ) (at k first : ℕ) (before after : List ℕ) (r : Bool) : Type 0 where
@@ -55,7 +51,7 @@ pub record CameTo (update : Bool) (marks s : List ℕ) (from : Reached) : Type 0
 
 -- n records, those behind record 0 without a fault, their tally, and the words of the items in the file's order at the front of the area
 pub record RecordsRead (update : Bool) (marks s : List ℕ) (n : ℕ) (t : Tally) (before after : List ℕ) : Type 0 where
-  pub framed : frame_of s ≡ Records n
+  pub framed : frame_of s ≡ Ok n
   pub none : (records_fault (n - 1) update marks s 1 (record_at s 1) first_state).code ≡ 0
   pub tally : t ≡ with_records no_tally (n - first_item update) s (record_at s (first_item update))
   pub words : Collected before (name_words update s n) (n - first_item update) after
@@ -67,7 +63,7 @@ pub record RecordsTold (update : Bool) (marks s before after : List ℕ) (r : Pa
 
 -- a file of n records without any of the codes 1, 2, 4, 5 and 6, their tally, and the words of its items in the file's order
 pub record FileRead (update : Bool) (s : List ℕ) (n : ℕ) (t : Tally) (before after : List ℕ) : Type 0 where
-  pub framed : frame_of s ≡ Records n
+  pub framed : frame_of s ≡ Ok n
   pub short : length s ≤ most_bytes
   pub none : (read_fault update s n).code ≡ 0
   pub tally : t ≡ with_records no_tally (n - first_item update) s (record_at s (first_item update))
@@ -98,12 +94,12 @@ pub record CellPassed (s : List ℕ) (p : Passed) (work : List ℕ) : Type 0 whe
 -- and it has n records, and room for their words
 pub record CellOpened (s : List ℕ) (n : ℕ) (p : Passed) (work : List ℕ) : Type 0 where
   pub passed : CellPassed s p work
-  pub framed : frame_of s ≡ Records n
+  pub framed : frame_of s ≡ Ok n
   pub room : work_each * n ≤ length work
 
 -- a cell of n records without any of the codes 1 to 8, and the words of its items in held order
 pub record CellRead (s : List ℕ) (n : ℕ) (work : List ℕ) : Type 0 where
-  pub front : front_of 1 s ≡ Count n
+  pub front : front_of 1 s ≡ Ok n
   pub room : work_each * n ≤ length work
   pub fine : (cell_fault s n).code ≡ 0
   pub words : HeldIn s n work
@@ -113,6 +109,6 @@ pub record CellRefused (s : List ℕ) (w : ℕ) (a : Answer) : Type 0 where
   pub is : a ≡ read_cell s w
   pub code : a.code ≡ 0 → ⊥
 
-pub record CellTold (s : List ℕ) (w : ℕ) (work : List ℕ) (r : Read) : Type 0 where
-  pub all : (n : ℕ) → r ≡ All n → CellRead s n work
-  pub refused : (a : Answer) → r ≡ Refused a → CellRefused s w a
+pub record CellTold (s : List ℕ) (w : ℕ) (work : List ℕ) (r : Result ℕ Answer) : Type 0 where
+  pub all : (n : ℕ) → r ≡ Ok n → CellRead s n work
+  pub refused : (a : Answer) → r ≡ Err a → CellRefused s w a

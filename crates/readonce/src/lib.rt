@@ -9,7 +9,5 @@ pub mod cell;
 pub mod pass;
 pub mod record;
 
-pub use cell::Read;
-
 // A cell that is read.
 pub use cell::cell_read;

@@ -66,6 +66,7 @@ fn records_once(
     };
     let mut at = start;
     let mut k: usize = 1;
+    // A while: the step is the record's own length.
     while at < s.len() {
         let stage = st.stage;
         let f = record_fine(s, at, marks, update, stage, st.aall, st.nall, table);
@@ -99,12 +100,10 @@ pub fn file_once(s: &[u8], start: usize, update: bool, area: &mut [u8]) -> Passe
     requires { StartedAt s.now start }
     ensures { FileTold update s.now area.old area.new result }
 {
-    let d = described(s);
-    if !d.good {
+    let Some(marks) = described(s) else {
         let first = start_at(start);
         return found(0, no_tally(), first.index, first.at, first.known);
-    }
-    let marks = d.marks;
+    };
     let mut table = blank();
     records_once(s, start, &marks, update, &mut table, area)
 }

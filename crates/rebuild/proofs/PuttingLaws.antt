@@ -8,6 +8,7 @@ use native.Mathlib.Numerals.{add-one}
 use native.Mathlib.Omega.{arith}
 use lib.ListN.{length, drop, get_or, set, length-set}
 use lib.Seq.{drop-cons, get_or-set_same, get_or-set_other}
+use Rattle.std.specs.Prelude.{Option, Some, IsSome}
 use Rattle.octets.proofs.ListLaws.{member_at}
 use Rattle.octets.proofs.Cases.{eq_or_ne, le_or_lt}
 use Rattle.octets.specs.Number.{bytes_of}
@@ -22,6 +23,7 @@ use Rattle.items.specs.Item.{item_at}
 use Rattle.edits.specs.Lists.{allowed_at}
 use Rattle.edits.proofs.ListsLaws.{allowed_in}
 use Rattle.splice.specs.Put.{ListPut}
+use Rattle.splice.proofs.PutLaws.{put_given, put_done}
 use Rattle.itemrows.specs.Joined.{field_piece, field_pieces, bytes_for, sum_by, Small}
 use Rattle.itemrows.proofs.RowLaws.{bytes_no, bytes_some}
 use Rattle.writing.proofs.JoinedLaws.{field_long}
@@ -48,10 +50,15 @@ module _ {cell : List ℕ} {at : ℕ} {update : List ℕ} {by : ℕ} (sides : Si
   body_most : length (body_of (field_piece k (list_bytes cell at update by k))) ≤ both_for cell at update by k
   body_most = omega (arith, field_long k (list_bytes cell at update by k), edited_both sides k list may)
 
-  module _ {a b : List ℕ} {place end : ℕ} (put : ListPut (allowed_at (edit_of (amendment_at update by)) (item_at cell at).lists k) (list_bytes cell at update by k) a place b end)
+  pub edited_given : {a b : List ℕ} {place : ℕ} {r : Option ℕ}
+      → ListPut (allowed_at (edit_of (amendment_at update by)) (item_at cell at).lists k) (list_bytes cell at update by k) a place b r → IsSome r
+  edited_given put = put_given put may
+
+  module _ {a b : List ℕ} {place end : ℕ} {r : Option ℕ}
+      (put : ListPut (allowed_at (edit_of (amendment_at update by)) (item_at cell at).lists k) (list_bytes cell at update by k) a place b r) (told : r ≡ Some end)
       (room : place + both_for cell at update by k ≤ length a) where
     wrote : Wrote a place (list_bytes cell at update by k) b end
-    wrote = put.yes may
+    wrote = put_done put told
 
     fits : place + length (body_of (field_piece k (list_bytes cell at update by k))) ≤ length a
     fits = omega (arith, body_most)

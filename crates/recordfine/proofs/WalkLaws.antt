@@ -23,9 +23,11 @@ use Rattle.iso8211.specs.declared.field.Field.{Field}
 use Rattle.iso8211.proofs.DirectoryLaws.{rows_row, in_row_next, field_is, field_tag, row_within, row_next}
 use Rattle.iso8211.proofs.RecordLaws.{record_row}
 use Rattle.iso8211.proofs.Promise.{directory_length, fields_row}
-use Rattle.layout.specs.Layout.{filled, field_laid, may_end, layout_fault, content_of, start}
+use Rattle.layout.specs.Layout.{filled, field_laid, may_end, layout_fault, content_of}
 use Rattle.layout.specs.Record.{kind_at, content_at}
 use Rattle.fieldvalue.specs.Value.{field_fault, seen_before, seen_after, values_from, value_fault}
+use Rattle.std.specs.Prelude.{Ok}
+use Rattle.values.proofs.FaultLaws.{told_none, place_ok, place_none}
 use Rattle.fieldvalue.specs.Judged.{FieldJudged, RecordJudged}
 use Rattle.layout.proofs.LayoutLaws.{laid_start, turn_on, end_good_lem}
 use Rattle.layout.proofs.Promise.{layout_filled, layout_head, full_first, content_length}
@@ -82,7 +84,8 @@ values_next n m update aall nall s at j prev seen k c e f g z = rw (e, ← f, �
 
 module _ {update : Bool} {aall nall : ℕ} {s : List ℕ} {at : ℕ} {before t after : List ℕ} {j i prev stamp new k next : ℕ} {c : List ℕ} (f : Field)
     (w : Valued update aall nall s at before t j i prev stamp) (more : j < count_at s at) (is : f ≡ field_at s at j) (kind : k ≡ kind_of f.tag) (small : k ≤ 19)
-    (content : c ≡ content_of s f) (stamped : new ≡ cond (eqb prev k) stamp i) (judged : FieldJudged update aall nall k c new t after 0) (on : i < next) (u : Upto before at) where
+    (content : c ≡ content_of s f) (stamped : new ≡ cond (eqb prev k) stamp i) (judged : FieldJudged update aall nall k c new t after (Ok tt)) (on : i < next)
+    (u : Upto before at) where
   next_stamped : Stamped t new (seen_before prev k (w.here u).seen)
   unfolding seen_before
   next_stamped =
@@ -107,21 +110,21 @@ module _ {update : Bool} {aall nall : ℕ} {s : List ℕ} {at : ℕ} {before t a
       let n = w.here u in
       record {
         seen = seen_after k (seen_before prev k n.seen) c;
-        stamped = λ h. judged.met _ next_stamped refl;
+        stamped = λ h. judged.met _ next_stamped;
         upto = judged.upto next_upto;
         below = next_low;
         answer = n.answer ∙ values_next (count_at s at - j) (count_at s at - (j + 1)) update aall nall s at j prev n.seen k c (omega arith)
             (kind ∙ ap (λ (x : Field). kind_of x.tag) is)
-            (content ∙ ap (λ (x : Field). content_of s x) is) (sym (judged.fault _ next_stamped));
+            (content ∙ ap (λ (x : Field). content_of s x) is) (told_none _ (judged.fault _ next_stamped) refl);
       }
 
 valued_end : {update : Bool} {aall nall : ℕ} {s : List ℕ} {at : ℕ} {before t : List ℕ} {j i prev stamp : ℕ} → Valued update aall nall s at before t j i prev stamp
-    → count_at s at ≤ j → i ≤ end_of s at → RecordJudged update aall nall s at before t 0
+    → count_at s at ≤ j → i ≤ end_of s at → RecordJudged update aall nall s at before t (Ok tt)
 unfolding values_from
 valued_end {update} {aall} {nall} {s} {at} {before} {t} {j} {i} {prev} {stamp} w low high = record {
-  fault = λ u. let n = w.here u in let z : count_at s at - j ≡ 0 = omega arith in sym (n.answer ∙ rw z);
+  fault = λ u. let n = w.here u in let z : count_at s at - j ≡ 0 = omega arith in place_ok (n.answer ∙ rw z);
   upto = λ u. let n = w.here u in let b = n.below in upto_more n.upto (omega arith);
-  within = omega arith;
+  within = tt;
 }
 
 -- ---- where the walk stands
@@ -339,7 +342,7 @@ fine_so {update} {stage} {marks} {b = b} o told fine is =
       good = λ x. told.good yes_fine;
       ends = λ x. is.ends ∙ o.ends;
       laid = λ x. told.laid yes_fine;
-      valued = λ x u. sym ((told.valued yes_fine).fault u);
+      valued = λ x u. place_none _ ((told.valued yes_fine).fault u) refl;
       upto = λ x u. (told.valued yes_fine).upto u;
       starts = λ x. is.starts ∙ second_start update stage marks o (told.good yes_fine) (told.laid yes_fine);
       kinded = λ x. is.kinded;

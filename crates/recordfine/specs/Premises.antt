@@ -1,5 +1,5 @@
 -- What the walk over a record knows on its way. It serves the proofs, and nothing here need be believed. Assumes nothing.
-use Rattle.std.specs.Prelude.{ℕ, ◌+◌, ◌-◌, ◌%◌, ◌≤◌, Bool, true, false, ◌&&◌, List, ◌≡◌, length, leb, eqb}
+use Rattle.std.specs.Prelude.{ℕ, ◌+◌, ◌-◌, ◌%◌, ◌≤◌, Bool, true, false, ◌&&◌, List, ◌≡◌, length, leb, eqb, Ok}
 use Rattle.octets.specs.Number.{byte_at}
 use Rattle.octets.specs.Digits.{number_at}
 use Rattle.iso8211.specs.Leader.{size_at, base_at, length_digits, position_digits}
@@ -60,7 +60,7 @@ pub record WholeTold (due size prev : ℕ) (r : Bool) : Type 0 where
 pub record FieldsTold (update : Bool) (stage : ℕ) (marks : List ℕ) (aall nall : ℕ) (s : List ℕ) (at : ℕ) (before after : List ℕ) (r : Bool) : Type 0 where
   pub good : r ≡ true → record_good false s at ≡ true
   pub laid : r ≡ true → layout_fault update stage marks s at ≡ 0
-  pub valued : r ≡ true → RecordJudged update aall nall s at before after 0
+  pub valued : r ≡ true → RecordJudged update aall nall s at before after (Ok tt)
 
 -- r has the end of the record and the kind of its second field, and where that starts behind a field of three bytes
 pub record IdentifiedBy (s : List ℕ) (at : ℕ) (h : Open) (r : Fine) : Type 0 where

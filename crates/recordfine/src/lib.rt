@@ -107,6 +107,7 @@ fn fields_fine(
     let mut stamp = next.stamp;
     let mut due = next.due;
     let mut i = next.row;
+    // A while: `step_by` would ask at each row whether it is the first.
     while i < stop {
         let long = row_fine(s, i, l, p, body, size, due);
         if long == 0 {

@@ -1,18 +1,21 @@
 -- The code that writes leader and directory: turns of its loops, and how what its calls wrote joins. Assumes nothing.
-use Prim.Native.Nat.{ℕ, ◌+◌, ◌-◌, ◌*◌, ◌/◌, ◌%◌, ◌≤◌, ◌<◌, max}
-use mathlib.Core.List.{List, [], ◌∷◌, ◌++◌}
+use Prim.Native.Nat.{ℕ, ◌+◌, ◌*◌, ◌/◌, ◌%◌, ◌≤◌, ◌<◌, max}
+use mathlib.Core.List.{List, [], ◌∷◌, ◌++◌, map}
 use mathlib.Core.Path.{◌≡◌, refl, sym, ap, ◌∙◌}
 use native.Mathlib.Nat.{mul-le-mul_right}
+use native.Mathlib.Numerals.{add-one}
 use native.Mathlib.Omega.{arith}
 use lib.ListN.{length, take, drop, get_or, length-append, drop_of_length-le}
-use lib.Seq.{length-take-le}
+use lib.Seq.{drop-cons, length-take-le}
+use Rattle.std.specs.List.{fold, reduce}
+use Rattle.std.specs.Option.{option_map, unwrap_or}
+use Rattle.std.specs.Prelude.{Option, None, Some}
 use Rattle.octets.specs.Number.{bytes_of}
 use Rattle.octets.specs.Digits.{digits_of, fewest}
 use Rattle.octets.specs.Area.{Wrote, Going}
 use Rattle.octets.proofs.AreaLaws.{wrote_join, wrote_as, going_step, going_end, going_room}
 use Rattle.octets.proofs.DigitsLaws.{digits_length}
-use Rattle.iso8211.proofs.DirectoryLaws.{peel}
-use Rattle.iso8211.specs.Directory.{row_width}
+use Rattle.iso8211.specs.Directory.{row_width, len, position}
 use Rattle.records.specs.Written.{tag_bytes, longest, farthest, row_bytes, rows_bytes, base_for, leader_of, head_over, head_bytes}
 use Rattle.records.proofs.WrittenLaws.{row_length, leader_length}
 
@@ -42,49 +45,59 @@ unfolding row_bytes
 row_put l p t n x f g h = wrote_join f (wrote_join g h)
 
 -- ---- the rows one after the other
-gone : (rows : List (List ℕ)) (k n : ℕ) → n ≤ k → n ≤ length rows → drop k (take n rows) ≡ []
-gone rows k n h f = drop_of_length-le (take n rows) {i = k} (rw (length-take-le n rows f) h)
-
-module _ (rows : List (List ℕ)) (k n l p : ℕ) (here : k < n) (fit : n ≤ length rows) where
-  rows_next : rows_bytes l p (drop k (take n rows)) ≡ row_bytes l p (get_or rows k []) ++ rows_bytes l p (drop (k + 1) (take n rows))
+module _ (rows : List (List ℕ)) (k l p : ℕ) (here : k < length rows) where
+  rows_next : rows_bytes l p (drop k rows) ≡ row_bytes l p (get_or rows k []) ++ rows_bytes l p (drop (k + 1) rows)
   unfolding rows_bytes
-  rows_next = rw (peel rows k n here fit)
+  rows_next = rw (add-one k, drop-cons rows k [] here) refl
 
-  pub rows_room : {a b : List ℕ} {at m : ℕ} {all : List ℕ} → Going a at all b m (rows_bytes l p (drop k (take n rows))) → at + length all ≤ length a → m + row_width l p ≤ length b
+  pub rows_room : {a b : List ℕ} {at m : ℕ} {all : List ℕ} → Going a at all b m (rows_bytes l p (drop k rows)) → at + length all ≤ length a → m + row_width l p ≤ length b
   rows_room g room =
       let r = going_room g room in
-      let e = ap length rows_next ∙ length-append (row_bytes l p (get_or rows k [])) (rows_bytes l p (drop (k + 1) (take n rows))) in
+      let e = ap length rows_next ∙ length-append (row_bytes l p (get_or rows k [])) (rows_bytes l p (drop (k + 1) rows)) in
       let w = row_length l p (get_or rows k []) in
       omega arith
 
-  pub rows_more : {a b d : List ℕ} {at m q : ℕ} {all : List ℕ} → Going a at all b m (rows_bytes l p (drop k (take n rows)))
+  pub rows_more : {a b d : List ℕ} {at m q : ℕ} {all : List ℕ} → Going a at all b m (rows_bytes l p (drop k rows))
       → Wrote b m (row_bytes l p (get_or (get_or rows k []) 0 0 ∷ get_or (get_or rows k []) 1 0 ∷ get_or (get_or rows k []) 2 0 ∷ [])) d q
-      → Going a at all d q (rows_bytes l p (drop (k + 1) (take n rows)))
+      → Going a at all d q (rows_bytes l p (drop (k + 1) rows))
   unfolding row_bytes
-  rows_more g w = going_step (row_bytes l p (get_or rows k [])) (rows_bytes l p (drop (k + 1) (take n rows))) g rows_next w
+  rows_more g w = going_step (row_bytes l p (get_or rows k [])) (rows_bytes l p (drop (k + 1) rows)) g rows_next w
 
-  pub longest_more : (m : ℕ) → longest (take n rows) ≡ max m (longest (drop k (take n rows)))
-      → longest (take n rows) ≡ max (max m (get_or (get_or rows k []) 1 0)) (longest (drop (k + 1) (take n rows)))
-  unfolding longest
-  longest_more m so = so ∙ rw (peel rows k n here fit) (omega arith)
-
-  pub farthest_more : (m : ℕ) → farthest (take n rows) ≡ max m (farthest (drop k (take n rows)))
-      → farthest (take n rows) ≡ max (max m (get_or (get_or rows k []) 2 0)) (farthest (drop (k + 1) (take n rows)))
-  unfolding farthest
-  farthest_more m so = so ∙ rw (peel rows k n here fit) (omega arith)
-
-pub rows_all : {a b : List ℕ} {at m : ℕ} {all : List ℕ} (rows : List (List ℕ)) (k n l p : ℕ) → n ≤ k → n ≤ length rows
-    → Going a at all b m (rows_bytes l p (drop k (take n rows))) → Wrote a at all b m
+pub rows_all : {a b : List ℕ} {at m : ℕ} {all : List ℕ} (rows : List (List ℕ)) (k l p : ℕ) → length rows ≤ k
+    → Going a at all b m (rows_bytes l p (drop k rows)) → Wrote a at all b m
 unfolding rows_bytes
-rows_all rows k n l p h f g = going_end g (rw (gone rows k n h f))
+rows_all rows k l p h g = going_end g (rw (drop_of_length-le rows {i = k} h) refl)
 
-pub longest_all : (rows : List (List ℕ)) (k n m : ℕ) → n ≤ k → n ≤ length rows → longest (take n rows) ≡ max m (longest (drop k (take n rows))) → m ≡ longest (take n rows)
+-- ---- the greatest of a number of each row
+taken : (o : Option ℕ) → unwrap_or (option_map (λ x. x) o) 0 ≡ unwrap_or o 0
+taken None = refl
+taken (Some x) = refl
+
+longest_over : (es : List (List ℕ)) (m : ℕ) → fold max m (map len es) ≡ max m (longest es)
 unfolding longest
-longest_all rows k n m h f so = sym (so ∙ rw (gone rows k n h f) (omega arith))
+longest_over [] m = omega arith
+longest_over (e ∷ es) m = longest_over es (max m (len e)) ∙ omega arith
 
-pub farthest_all : (rows : List (List ℕ)) (k n m : ℕ) → n ≤ k → n ≤ length rows → farthest (take n rows) ≡ max m (farthest (drop k (take n rows))) → m ≡ farthest (take n rows)
+longest_reduced : (es : List (List ℕ)) → unwrap_or (reduce max (map len es)) 0 ≡ longest es
+unfolding longest
+longest_reduced [] = refl
+longest_reduced (e ∷ es) = longest_over es (len e)
+
+pub longest_by : (es : List (List ℕ)) (o : Option ℕ) (r : ℕ) → option_map (λ x. x) o ≡ reduce max (map len es) → r ≡ unwrap_or o 0 → r ≡ longest es
+longest_by es o r e is = is ∙ sym (taken o) ∙ ap (λ (x : Option ℕ). unwrap_or x 0) e ∙ longest_reduced es
+
+farthest_over : (es : List (List ℕ)) (m : ℕ) → fold max m (map position es) ≡ max m (farthest es)
 unfolding farthest
-farthest_all rows k n m h f so = sym (so ∙ rw (gone rows k n h f) (omega arith))
+farthest_over [] m = omega arith
+farthest_over (e ∷ es) m = farthest_over es (max m (position e)) ∙ omega arith
+
+farthest_reduced : (es : List (List ℕ)) → unwrap_or (reduce max (map position es)) 0 ≡ farthest es
+unfolding farthest
+farthest_reduced [] = refl
+farthest_reduced (e ∷ es) = farthest_over es (position e)
+
+pub farthest_by : (es : List (List ℕ)) (o : Option ℕ) (r : ℕ) → option_map (λ x. x) o ≡ reduce max (map position es) → r ≡ unwrap_or o 0 → r ≡ farthest es
+farthest_by es o r e is = is ∙ sym (taken o) ∙ ap (λ (x : Option ℕ). unwrap_or x 0) e ∙ farthest_reduced es
 
 -- ---- the leader
 pub five_put : {a b : List ℕ} {at r : ℕ} (v : ℕ) → Wrote a at (digits_of 5 v) b r → r ≡ at + 5

@@ -14,10 +14,7 @@ use octets::number::put1;
 pub fn larger(a: u32, b: u32) -> u32
     ensures { result ≡ max a b }
 {
-    if a < b {
-        return b;
-    }
-    a
+    a.max(b)
 }
 
 // The longest field of the first n rows.
@@ -25,14 +22,7 @@ fn longest_of(rows: [[u32; 3]; 8], n: usize) -> u32
     requires { n ≤ 8 }
     ensures { result ≡ longest (take n rows) }
 {
-    let mut m: u32 = 0;
-    let mut k: usize = 0;
-    while k < n {
-        let row = rows[k];
-        m = larger(m, row[1]);
-        k += 1;
-    }
-    m
+    rows[..n].iter().map(|row| row[1]).max().unwrap_or(0)
 }
 
 // The position farthest back of the first n rows.
@@ -40,14 +30,7 @@ fn farthest_of(rows: [[u32; 3]; 8], n: usize) -> u32
     requires { n ≤ 8 }
     ensures { result ≡ farthest (take n rows) }
 {
-    let mut m: u32 = 0;
-    let mut k: usize = 0;
-    while k < n {
-        let row = rows[k];
-        m = larger(m, row[2]);
-        k += 1;
-    }
-    m
+    rows[..n].iter().map(|row| row[2]).max().unwrap_or(0)
 }
 
 // Two bytes, one after the other.
@@ -97,11 +80,8 @@ fn put_rows(out: &mut [u8], at: usize, rows: [[u32; 3]; 8], n: usize, l: usize, 
     ensures { Wrote out.old at (rows_bytes l p (take n rows)) out.new result }
 {
     let mut next = at;
-    let mut k: usize = 0;
-    while k < n {
-        let row = rows[k];
+    for row in &rows[..n] {
         next = put_row(out, next, row[0], row[1], row[2], l, p);
-        k += 1;
     }
     next
 }

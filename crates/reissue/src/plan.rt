@@ -6,10 +6,10 @@ ghost use Rattle.reissue.specs.Plan.{chart_from, Writing, within_limits, Planned
 use answers::codes::{LONGEST_RECORD, MOST_BYTES, MOST_RECORDS};
 use fronts::front::{dsid_total, dspm_total};
 use iso8211::field::record_end;
-use records::head::larger;
 use writing::all::measure;
 
-// Whether the held form keeps its limits, and how many bytes it has.
+// Whether the held form keeps its limits, and how many bytes it has. Not an Option: `total` is its length
+// whether it keeps them or not (`total_is` of `Planned`).
 #[derive(Drop)]
 pub struct Plan {
     pub fits: bool,
@@ -28,13 +28,7 @@ pub struct Scheme {
 pub fn within_limits(n: usize, most: u32, total: usize) -> bool
     ensures { result ≡ within_limits n most total }
 {
-    if MOST_RECORDS < n {
-        return false;
-    }
-    if LONGEST_RECORD < most {
-        return false;
-    }
-    total <= MOST_BYTES
+    n <= MOST_RECORDS && most <= LONGEST_RECORD && total <= MOST_BYTES
 }
 
 // The plan of a cell of m items.
@@ -48,7 +42,7 @@ pub fn planned(s: &[u8], m: usize, work: &[u8]) -> Scheme
     let dspm = dspm_total(s, second);
     let found = measure(s, m, work);
     let sizes = found.sizes;
-    let most = larger(larger(dsid, dspm), sizes.most);
+    let most = dsid.max(dspm).max(sizes.most);
     let total = 1561 + dsid as usize + dspm as usize + sizes.sum;
     let plan = Plan {
         fits: within_limits(3 + m, most, total),

@@ -9,7 +9,7 @@ ghost use Rattle.names.specs.Premises.{Stands, AllStand};
 ghost use Rattle.names.specs.NameWords.{items_at};
 
 use counted::counts::{Tally, add_feature, add_vector};
-use iso8211::field::head_of;
+use iso8211::field::{Record, head_of};
 use items::identity::objl_of;
 use items::word;
 use words::get;
@@ -18,13 +18,11 @@ use words::get;
 pub fn class_of(rank: u64) -> u32
     ensures { result ≡ class_of rank }
 {
-    if rank == 0 {
-        return 110;
+    match rank {
+        0 => 110,
+        1 => 120,
+        _ => 130,
     }
-    if rank == 1 {
-        return 120;
-    }
-    130
 }
 
 // The counts with the item whose word is w. Of a vector the word says all.
@@ -35,7 +33,14 @@ fn add_word(t: Tally, s: &[u8], w: u64) -> Tally
     let rank = w / word::RANK_WEIGHT;
     if rank == 3 {
         let at = (w % word::NAME_WEIGHT) as usize;
-        return add_feature(t, objl_of(s, at, head_of(s, at)));
+        return add_feature(
+            t,
+            objl_of(&Record {
+                file: s,
+                at,
+                head: head_of(s, at),
+            }),
+        );
     }
     add_vector(t, class_of(rank))
 }
@@ -53,11 +58,9 @@ pub fn tally_words(s: &[u8], m: usize, work: &[u8]) -> Tally
         connected: 0,
         edges: 0,
     };
-    let mut k: usize = 0;
-    while k < m {
+    for k in 0..m {
         let w = get(work, k);
         t = add_word(t, s, w);
-        k += 1;
     }
     t
 }

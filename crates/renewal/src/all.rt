@@ -8,7 +8,6 @@ ghost use Rattle.renewal.specs.Same.{Told, AllSame};
 
 use crate::item::{put_at, size_at};
 use merge::walk::item_at;
-use records::head::larger;
 use writing::all::{Measured, Sizes};
 
 // The sizes of the records of all items: for the limits of the held form, and for the room that
@@ -32,17 +31,15 @@ pub fn measure(
     let mut sum: usize = 0;
     let mut most: u32 = 0;
     let mut same = true;
-    let mut i: usize = 0;
     let mut j: usize = 0;
-    while i < count {
+    for i in 0..count {
         let a = item_at(work, end, count, edits, i, j);
         j += a.change;
-        i += 1;
         let one = size_at(cell, update, a, join, table, room);
         let size = one.size;
         sum += size as usize;
-        most = larger(most, size);
-        same = same & one.same;
+        most = most.max(size);
+        same &= one.same;
     }
     let sizes = Sizes { sum, most };
     Measured { sizes, same }
@@ -73,13 +70,11 @@ pub fn put_items(
     ensures rooms { Rooms join.new table.new room.new }
 {
     let mut next = place;
-    let mut i: usize = 0;
     let mut j: usize = 0;
-    while i < count {
+    for i in 0..count {
         let a = item_at(work, end, count, edits, i, j);
         let number = (i + 3) as u32;
         j += a.change;
-        i += 1;
         next = put_at(cell, update, a, same, join, table, room, out, next, number);
     }
     next

@@ -11,7 +11,6 @@ ghost use Rattle.renewal.specs.Renewed.{renewed, front_of, Renewing};
 ghost use Rattle.renewal.specs.Same.{Told, AllSame};
 
 use crate::all::{measure, put_items};
-use records::head::larger;
 use reissue::plan::{Plan, Scheme, within_limits};
 use resultcounts::tally::tally_items;
 use revisedfront::front::{front_sizes, fronts_of, put_front};
@@ -39,7 +38,7 @@ pub fn planned(
     let front = front_sizes(cell, update);
     let items = measure(cell, update, work, end, count, edits, join, table, room);
     let sizes = items.sizes;
-    let most = larger(front.most, sizes.most);
+    let most = front.most.max(sizes.most);
     let total = front.sum + sizes.sum;
     let plan = Plan {
         fits: within_limits(records, most, total),

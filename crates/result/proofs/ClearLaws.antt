@@ -1,8 +1,8 @@
 -- Laws of the items that are seen to have no fault while the notes are put. Assumes nothing.
 use Prim.Native.Nat.{ℕ, ◌+◌, ◌^◌, ◌≤◌, ◌<◌}
-use mathlib.Core.Bool.{Bool, true, false, not}
+use mathlib.Core.Bool.{Bool, true}
 use mathlib.Core.List.{List}
-use mathlib.Core.Logic.{⊎_elim, inl, inr}
+use mathlib.Core.Logic.{⊎_elim}
 use mathlib.Core.Path.{◌≡◌, refl}
 use native.Mathlib.Omega.{arith}
 use Rattle.words.specs.Words.{words_in, put_at}
@@ -26,14 +26,6 @@ use Rattle.result.proofs.NotesLaws.{Walked, walked_headed}
 pub note_put : (comf : ℕ) (i : Item) (work : List ℕ) (count place : ℕ) (next : List ℕ) (seen : Seen) → SeenTold comf (words_in work 0 count) i seen → seen.note < 2 ^ 64
     → next ≡ put_at work place seen.note → NotePut comf i work count place next seen.clear
 note_put comf i work count place next seen told small put = record { put = rw (← told.note) put; small = rw (← told.note) small; clear = told.clear }
-
--- ---- clear_with
-pub clear_same : (c : Clear) (before i j : ℕ) (good : Bool) → ClearWith c before i j good c
-clear_same c before i j good = record { is = inl refl }
-
-pub clear_more : (c : Clear) (before i j : ℕ) (good : Bool) (r : Clear) → not good ≡ false → c.items ≡ before → r.items ≡ i → r.edits ≡ j → ClearWith c before i j good r
-clear_more c before i j true r told here items edits = record { is = inr (refl, here, items, edits) }
-clear_more c before i j false r told here items edits = absurd (let z : ◌≡◌ {A = ℕ} 0 1 = cc in omega arith)
 
 -- ---- while the notes are put: c counts items before item i, and if all of them as many changed ones as are behind
 pub record Clearing (comf : ℕ) (cell update work : List ℕ) (end count edits i j : ℕ) (c : Clear) : Type 0 where

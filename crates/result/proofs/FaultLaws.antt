@@ -2,7 +2,7 @@
 use Prim.Native.Nat.{ℕ, ◌+◌, ◌≤◌}
 use mathlib.Core.Bool.{Bool, cond}
 use mathlib.Core.List.{List}
-use mathlib.Core.Path.{◌≡◌, sym, ◌∙◌}
+use mathlib.Core.Path.{◌≡◌, refl, sym, ap, ◌∙◌}
 use native.Mathlib.Omega.{arith}
 use lib.Dec.{eqb}
 use borrow.Author.Tests.{ne_eqb}
@@ -20,7 +20,9 @@ use Rattle.resultitems.specs.Able.{Able, Laid}
 use Rattle.result.specs.Cleared.{JudgedFrom, ClearTo}
 use Rattle.result.specs.declared.Clear.{Clear}
 use Rattle.resultitems.proofs.PlacesLaws.{beside_places, beside_all, beside_laid, laid_worded, walk_able, walk_rest}
-use Rattle.answers.specs.Answer.{refusal}
+use Rattle.std.specs.Prelude.{Result, Ok, Err}
+use Rattle.answers.specs.Answer.{refusal, outcome}
+use Rattle.answers.proofs.OutcomeLaws.{fine_told, some_told}
 use Rattle.answers.specs.declared.refusal.Refusal.{Refusal}
 
 module _ {code : Item → ℕ} {cell update work : List ℕ} {end count edits i j : ℕ} (judged : JudgedFrom code cell update work end count edits i j) {p : At}
@@ -35,8 +37,8 @@ module _ {code : Item → ℕ} {cell update work : List ℕ} {end count edits i 
   turn = judged.is ∙ rw head.is
 
   module _ (c : ℕ) (told : c ≡ code (object_of cell update p)) where
-    pub judged_found : (r : Refusal) → (c ≡ 0 → ⊥) → r ≡ refusal c (3 + i) 0 → r ≡ fault_from code 3 (result_items cell update work end count edits)
-    judged_found r ne e = e ∙ sym (turn ∙ rw (← told, ne_eqb c 0 ne))
+    pub judged_found : (r : Refusal) → (c ≡ 0 → ⊥) → r ≡ refusal c (3 + i) 0 → Err r ≡ outcome (fault_from code 3 (result_items cell update work end count edits))
+    judged_found r ne e = some_told (e ∙ sym (turn ∙ rw (← told, ne_eqb c 0 ne))) (λ z. ne (sym (ap (λ (q : Refusal). q.code) e) ∙ z))
 
     pub judged_on : c ≡ 0 → JudgedFrom code cell update work end count edits (i + 1) (j + p.change)
     judged_on e =
@@ -48,9 +50,11 @@ pub clear_judged : {comf : ℕ} {cell update work : List ℕ} {end count edits :
 clear_judged v so = so.is _ _
 
 pub judged_done : {code : Item → ℕ} {cell update work : List ℕ} {end count edits i j : ℕ} → JudgedFrom code cell update work end count edits i j → count ≤ i
-    → (r : Refusal) → r ≡ refusal 0 0 0 → r ≡ fault_from code 3 (result_items cell update work end count edits)
+    → Ok tt ≡ outcome (fault_from code 3 (result_items cell update work end count edits))
 unfolding fault_from
-judged_done {code} {cell} {update} {work} {end} {count} {edits} {i} {j} judged high r e = e ∙ sym (judged.is ∙ rw (places_end work end count edits i j high))
+judged_done {code} {cell} {update} {work} {end} {count} {edits} {i} {j} judged high =
+    fine_told (fault_from code 3 (result_items cell update work end count edits))
+    (ap (λ (q : Refusal). q.code) judged.is ∙ rw (places_end work end count edits i j high) refl)
 
 -- ---- the whole: c has the words of a, and their notes
 module _ {cell update a : List ℕ} {end count edits : ℕ} (laid : Laid cell update a end count edits) {c : List ℕ} (beside : Beside a count c) where
@@ -73,7 +77,8 @@ module _ {cell update a : List ℕ} {end count edits : ℕ} (laid : Laid cell up
         };
   }
 
-  pub result_topology : {v : ℕ} → Prepared (notes_for (result_items cell update a end count edits)) (words_in a 0 count) count c v → (comf : ℕ) (r : Refusal)
-      → r ≡ fault_from (noted_code comf c count v) 3 (result_items cell update c end count edits) → r ≡ topology_of comf (result_items cell update a end count edits)
+  pub result_topology : {v : ℕ} → Prepared (notes_for (result_items cell update a end count edits)) (words_in a 0 count) count c v → (comf : ℕ) {r : Result Unit Refusal}
+      → r ≡ outcome (fault_from (noted_code comf c count v) 3 (result_items cell update c end count edits))
+      → r ≡ outcome (topology_of comf (result_items cell update a end count edits))
   unfolding topology_of
-  result_topology so comf r e = let code = code_noted (laid_worded laid) laid.order so comf in e ∙ rw (← code, result_places)
+  result_topology so comf e = let code = code_noted (laid_worded laid) laid.order so comf in e ∙ ap outcome (rw (← code, result_places))

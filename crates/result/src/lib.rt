@@ -7,6 +7,7 @@ ghost use Rattle.headvalues.specs.Dspm.{most_comf};
 ghost use Rattle.words.specs.Words.{words_in};
 ghost use Rattle.names.specs.Premises.{Noted};
 ghost use Rattle.quickvectors.specs.Quick.{NamesIn};
+ghost use Rattle.answers.specs.Answer.{outcome};
 ghost use Rattle.topology.specs.Topology.{fault_from, topology_of};
 ghost use Rattle.topology.specs.Notes.{notes_for, noted_code, Beside, NotesPut, Prepared};
 ghost use Rattle.merge.specs.Places.{places_of};
@@ -35,13 +36,10 @@ pub struct Clear {
 fn clear_with(clear: Clear, before: usize, i: usize, j: usize, good: bool) -> Clear
     ensures { ClearWith clear before i j good result }
 {
-    if !good {
-        return clear;
+    if good && clear.items == before {
+        return Clear { items: i, edits: j };
     }
-    if clear.items != before {
-        return clear;
-    }
-    Clear { items: i, edits: j }
+    clear
 }
 
 // The note of an item of the result, put at `place`; the answer is whether it is known to have no fault.
@@ -88,18 +86,15 @@ fn put_notes(
         × Rooms join.new table.new room.new }
 {
     let mut clear = Clear { items: 0, edits: 0 };
-    let mut i: usize = 0;
     let mut j: usize = 0;
-    while i < count {
+    for i in 0..count {
         let a = item_at(work, end, count, edits, i, j);
-        let before = i;
         let place = count + i;
         j += a.change;
-        i += 1;
         let good = put_note(
             cell, update, a, comf, work, count, place, nodes, join, table, room,
         );
-        clear = clear_with(clear, before, i, j, good);
+        clear = clear_with(clear, i, i + 1, j, good);
     }
     clear
 }
@@ -156,27 +151,25 @@ fn items_fault(
     join: &mut [u8],
     table: &mut [u32],
     room: &mut [u8],
-) -> Refusal
+) -> Result<(), Refusal>
     requires { Laid cell.now update.now work.now end count edits × Noted work.now count v × (comf ≤ most_comf)
         × ClearTo comf cell.now update.now work.now end count edits clear × Rooms join.old table.old room.old }
-    ensures { (result ≡ fault_from (noted_code comf work.now count v) 3 (result_items cell.now update.now work.now end count edits))
+    ensures { (result ≡ outcome (fault_from (noted_code comf work.now count v) 3 (result_items cell.now update.now work.now end count edits)))
         × Rooms join.new table.new room.new }
 {
     let starts = starts_of(work, count);
-    let mut i = clear.items;
     let mut j = clear.edits;
-    while i < count {
+    for i in clear.items..count {
         let a = item_at(work, end, count, edits, i, j);
         let code = code_of(
             cell, update, a, comf, work, count, v, starts, join, table, room,
         );
         if code != 0 {
-            return refuse(code, 3 + i, 0);
+            return Err(refuse(code, 3 + i, 0));
         }
         j += a.change;
-        i += 1;
     }
-    refuse(0, 0, 0)
+    Ok(())
 }
 
 // The topology of the result of `count` items, of which the update modifies `edits`. The words stay
@@ -192,9 +185,9 @@ pub fn result_fault(
     join: &mut [u8],
     table: &mut [u32],
     room: &mut [u8],
-) -> Refusal
+) -> Result<(), Refusal>
     requires { Laid cell.now update.now work.old end count edits × (comf ≤ most_comf) × Rooms join.old table.old room.old }
-    ensures value { result ≡ topology_of comf (result_items cell.now update.now work.old end count edits) }
+    ensures value { result ≡ outcome (topology_of comf (result_items cell.now update.now work.old end count edits)) }
     ensures edits_unchanged { places_of work.new end count edits ≡ places_of work.old end count edits }
     ensures rooms { Rooms join.new table.new room.new }
 {

@@ -9,7 +9,7 @@ ghost use Rattle.resultitems.specs.Items.{Items, objects_in};
 ghost use Rattle.resultcounts.specs.Counts.{with_object};
 
 use counted::counts::{Tally, add_feature, add_vector};
-use iso8211::field::head_of;
+use iso8211::field::{Record, head_of};
 use items::identity::objl_of;
 use items::word;
 use merge::At;
@@ -22,7 +22,14 @@ fn add_record(t: Tally, s: &[u8], at: usize, rank: u64) -> Tally
     ensures { result ≡ with_record t s.now at }
 {
     if rank == 3 {
-        return add_feature(t, objl_of(s, at, head_of(s, at)));
+        return add_feature(
+            t,
+            objl_of(&Record {
+                file: s,
+                at,
+                head: head_of(s, at),
+            }),
+        );
     }
     add_vector(t, class_of(rank))
 }
@@ -60,13 +67,11 @@ pub fn tally_items(
         connected: 0,
         edges: 0,
     };
-    let mut i: usize = 0;
     let mut j: usize = 0;
-    while i < count {
+    for i in 0..count {
         let a = item_at(work, end, count, edits, i, j);
         t = add_item(t, cell, update, a);
         j += a.change;
-        i += 1;
     }
     t
 }

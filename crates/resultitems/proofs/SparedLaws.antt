@@ -4,12 +4,14 @@ use Prim.Native.Nat.{ℕ}
 use mathlib.Core.Bool.{Bool, true, false, not, cond}
 use mathlib.Core.List.{List, [], ◌∷◌}
 use mathlib.Core.Logic.{⊎_elim}
-use mathlib.Core.Option.{Option, none}
+use mathlib.Core.Option.{none}
+use mathlib.Core.Option as maybe
 use mathlib.Core.Path.{◌≡◌, refl, sym, ap, ◌∙◌}
 use native.Mathlib.Omega.{arith}
 use lib.ListN.{length}
 use lib.Dec.{eqb}
 use borrow.Author.Tests.{eq-eqb, ne_eqb}
+use Rattle.std.specs.Prelude.{Option}
 use Rattle.octets.proofs.Cases.{eq_or_ne}
 use Rattle.table.specs.Table.{VRPT, SG2D, SG3D, FFPT, FSPT, VRPC, SGCC, FFPC, FSPC}
 use Rattle.fieldvalue.specs.Value.{is_attributes}
@@ -18,20 +20,9 @@ use Rattle.items.specs.Item.{Item, item_at, is_feature}
 use Rattle.items.specs.Lists.{list_at}
 use Rattle.items.specs.Premises.{LaidOut, Identified}
 use Rattle.items.specs.Word.{rank_in, marked_offset}
-use Rattle.lookups.specs.declared.lookup.Found.{Found}
 use Rattle.edits.specs.Control.{Control}
 use Rattle.edits.specs.Lists.{list_edited, control_of, lists_edited}
-use Rattle.vectorshape.specs.Shape.{
-  coordinates_good,
-  isolated_good,
-  connected_good,
-  edge_good,
-  class_good,
-  vector_good,
-  feature_good,
-  shape_good,
-  shape_code,
-}
+use Rattle.vectorshape.specs.Shape.{coordinates_good, isolated_good, connected_good, edge_good, class_good, vector_good, feature_good, shape_good, shape_code}
 use Rattle.pointer.specs.Pointer.{pointer_code}
 use Rattle.ring.specs.Ring.{ring_code}
 use Rattle.itemrows.specs.Plain.{Stood}
@@ -90,7 +81,7 @@ module _ {s : List ℕ} {at rank : ℕ} (classed : Classed s at rank) (m n : ℕ
       }
 
 -- ---- lists that stay
-either : (b : Bool) → ◌≡◌ {A = Option Control} (cond b none none) none
+either : (b : Bool) → ◌≡◌ {A = maybe.Option Control} (cond b none none) none
 either true = refl
 either false = refl
 
@@ -122,7 +113,7 @@ module _ (a : Amendment) (t : Item) where
     sg3d_same = rw (no_second, either)
 
   -- no code looks at attributes
-  code_same : (comf : ℕ) (place : ℕ → Found) (object : ℕ → Bool) (node : ℕ → ℕ → ℕ) → a.first ≡ none → a.second ≡ none
+  code_same : (comf : ℕ) (place : ℕ → Option ℕ) (object : ℕ → Bool) (node : ℕ → ℕ → ℕ) → a.first ≡ none → a.second ≡ none
       → item_code comf place object node (amended a t) ≡ item_code comf place object node t
   unfolding item_code shape_code shape_good feature_good vector_good class_good isolated_good connected_good edge_good coordinates_good pointer_code ring_code amended
   code_same comf place object node no_first no_second =

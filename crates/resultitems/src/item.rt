@@ -13,7 +13,7 @@ ghost use Rattle.resultitems.specs.Able.{Able, Rooms};
 ghost use Rattle.resultitems.specs.Spared.{Classed, ControlTold};
 ghost use Rattle.names.specs.Premises.{Noted};
 
-use iso8211::field::head_of;
+use iso8211::field::{Record, head_of};
 use items::word;
 use joining::lists::total;
 use lookups::starts::Starts;
@@ -49,16 +49,21 @@ fn has_control(update: &[u8], by: usize, rank: u64) -> bool
     ensures { ControlTold update.now by result }
 {
     let h = head_of(update, by);
+    let r = Record {
+        file: update,
+        at: by,
+        head: h,
+    };
     if rank == 3 {
-        if total(update, by, h, kinds::FFPC) != 0 {
+        if total(&r, kinds::FFPC) != 0 {
             return true;
         }
-        return total(update, by, h, kinds::FSPC) != 0;
+        return total(&r, kinds::FSPC) != 0;
     }
-    if total(update, by, h, kinds::VRPC) != 0 {
+    if total(&r, kinds::VRPC) != 0 {
         return true;
     }
-    total(update, by, h, kinds::SGCC) != 0
+    total(&r, kinds::SGCC) != 0
 }
 
 // What is seen of an item that the update modifies, whose class has this rank: what the cell's record

@@ -4,9 +4,9 @@ use mathlib.Core.Bool.{Bool, true, false}
 use mathlib.Core.List.{List}
 use mathlib.Core.Path.{◌≡◌, refl, sym, ap, ◌∙◌}
 use native.Mathlib.Omega.{arith}
+use Rattle.std.specs.Prelude.{Ok}
 use Rattle.octets.specs.Number.{num_at}
 use Rattle.iso8211.specs.File.{frame_of, record_at}
-use Rattle.iso8211.specs.declared.file.Framed.TheVariants.{Records}
 use Rattle.iso8211.proofs.Promise.{record_in, fields_in, at_start}
 use Rattle.table.specs.Table.{DSSI}
 use Rattle.layout.specs.Layout.{filled}
@@ -30,7 +30,7 @@ use Rattle.layout.specs.Premises.{DspmThere}
 use Rattle.resultstages.specs.Stages.{BothReady}
 
 -- "0001 DSID DSSI" of either kind of file
-dsid_in_lem : (update : Bool) (s : List ℕ) (n : ℕ) → frame_of s ≡ Records n → (read_fault update s n).code ≡ 0 → Known (content_at s (record_at s 1) 1) → DsidIn s (record_at s 1)
+dsid_in_lem : (update : Bool) (s : List ℕ) (n : ℕ) → frame_of s ≡ Ok n → (read_fault update s n).code ≡ 0 → Known (content_at s (record_at s 1) 1) → DsidIn s (record_at s 1)
 dsid_in_lem update s n framed none known =
     let at = record_at s 1 in
     let g = good_records update s n framed none in
@@ -52,7 +52,7 @@ dsid_in_lem update s n framed none known =
       whole = omega (arith, full_dssi (content_at s at 2) full, content_length s at 2 (fields_in inside) (omega arith));
     }
 
-headed : (update : Bool) (s : List ℕ) (n : ℕ) → frame_of s ≡ Records n → (read_fault update s n).code ≡ 0 → Known (content_at s (record_at s 1) 1) → Headed s
+headed : (update : Bool) (s : List ℕ) (n : ℕ) → frame_of s ≡ Ok n → (read_fault update s n).code ≡ 0 → Known (content_at s (record_at s 1) 1) → Headed s
 headed update s n framed none known =
     let two = (good_records update s n framed none).1.1 in
     record { front = (record_in s n 0 0 framed (omega arith) (at_start s)).framed; dsid = dsid_in_lem update s n framed none known }

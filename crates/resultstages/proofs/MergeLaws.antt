@@ -37,12 +37,12 @@ use Rattle.revision.proofs.ObjectsLaws.{held_objects, result_objects, result_ins
 use Rattle.loader.specs.Apply.{result_of}
 use Rattle.resultstages.specs.Stages.{result_answer, amended_answer, renewed_in, Judging, Amending, Merging, BothReady, change_answer}
 use Rattle.resultstages.proofs.FrontLaws.{cell_three, update_two, dspm_here, comf_here, front_here}
-use Rattle.answers.specs.Answer.{refusal, filed}
+use Rattle.answers.specs.Answer.{refusal, answer, filed}
 use Rattle.answers.specs.declared.refusal.Refusal.{Refusal}
 use Rattle.answers.specs.declared.answer.Answer.{Answer}
 use Rattle.loader.specs.Admit.{area_by}
 use Rattle.answers.specs.First.{first_by}
-use Rattle.answers.proofs.AnswerLaws.{filed_kept, filed_first, filed_on}
+use Rattle.answers.proofs.AnswerLaws.{filed_some, filed_first, filed_on}
 
 -- ---- the areas in which a changed record is built
 rooms_of : (a b c : ℕ) (join table room : List ℕ) → 199998 ≤ a → b ≡ 65536 → 200500 ≤ c → join ≡ replicate a 0 → table ≡ replicate b 0 → room ≡ replicate c 0
@@ -106,9 +106,9 @@ module _ {cell : List ℕ} {n : ℕ} {update : List ℕ} {m : ℕ} {work : List 
           told ∙ ap (λ (os : List Item). placed_in update (amendments_fault os 2 (change_of update m).amendments))
           (ap (items_at cell) held_words ∙ held_objects following so.both.small)
 
-      pub amended_refused : (o : ℕ) (a : Answer) → (r.code ≡ 0 → ⊥) → a ≡ filed 2 r → a ≡ amended_answer cell n update m o
+      pub amended_refused : (o : ℕ) (a : Answer) → (r.code ≡ 0 → ⊥) → a ≡ answer r.code 2 r.index 0 r.offset → a ≡ amended_answer cell n update m o
       unfolding amended_answer
-      amended_refused o a ne e = rw (← by_chart) (filed_first 2 r (result_answer o (result_of cell n update m)) a ne e)
+      amended_refused o a ne e = rw (← by_chart) (filed_first 2 r (result_answer o (result_of cell n update m)) a ne (filed_some 2 r a ne e))
 
       pub amended_on : (o : ℕ) (a : Answer) → r.code ≡ 0 → a ≡ result_answer o (result_of cell n update m) → a ≡ amended_answer cell n update m o
       unfolding amended_answer
@@ -177,18 +177,19 @@ module _ (cell : List ℕ) (n : ℕ) (update : List ℕ) (m o k : ℕ) (is : k �
   unfolding change_fault chart_of placed_in first_by
   change_refused ne = rw (← is, ne_eqb k 0 ne, ne_eqb k 0 ne)
 
-  pub changed_refused : (r : Refusal) (p : ℕ) → (k ≡ 0 → ⊥) → p ≡ record_at update 1 → r ≡ refusal k 1 p → a ≡ filed 2 r → a ≡ change_answer cell n update m o
+  pub changed_refused : (r : Refusal) (p : ℕ) → (k ≡ 0 → ⊥) → p ≡ record_at update 1 → r ≡ refusal k 1 p → a ≡ answer r.code 2 r.index 0 r.offset → a ≡ change_answer cell n update m o
   unfolding change_answer
   changed_refused r p ne at e told =
       let same : placed_in update (change_fault (chart_of cell n) (change_of update m)) ≡ r = change_refused ne ∙ sym (e ∙ ap (refusal k 1) at) in
-      rw same (filed_first 2 r _ a (λ (z : r.code ≡ 0). ne (ap (λ (x : Refusal). x.code) (sym e) ∙ z)) told)
+      let some : r.code ≡ 0 → ⊥ = λ (z : r.code ≡ 0). ne (ap (λ (x : Refusal). x.code) (sym e) ∙ z) in
+      rw same (filed_first 2 r _ a some (filed_some 2 r a some told))
 
   pub changed_on : k ≡ 0 → a ≡ amended_answer cell n update m o → a ≡ change_answer cell n update m o
   unfolding change_answer amended_answer change_fault chart_of first_by
   changed_on none told = told ∙ rw (← is, eq-eqb k 0 none)
 
-pub refused_kept : (k i p : ℕ) (r : Refusal) (a : Answer) → (k ≡ 0 → ⊥) → r ≡ refusal k i p → a ≡ filed 2 r → a.code ≡ 0 → ⊥
-refused_kept k i p r a ne e told z = filed_kept 2 r a (λ (y : r.code ≡ 0). ne (ap (λ (x : Refusal). x.code) (sym e) ∙ y)) told z
+pub refused_kept : (k i p : ℕ) (r : Refusal) (a : Answer) → (k ≡ 0 → ⊥) → r ≡ refusal k i p → a ≡ answer r.code 2 r.index 0 r.offset → a.code ≡ 0 → ⊥
+refused_kept k i p r a ne e told z = ne (ap (λ (x : Refusal). x.code) (sym e) ∙ ap (λ (x : Answer). x.code) (sym told) ∙ z)
 
 pub amending : {cell : List ℕ} {n : ℕ} {update : List ℕ} {m : ℕ} {work : List ℕ} (k : ℕ) → BothReady cell n update m work → k ≡ follow_code (header_of cell) (change_of update m)
     → k ≡ 0

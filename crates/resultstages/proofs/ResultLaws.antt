@@ -23,9 +23,9 @@ use Rattle.resultitems.proofs.AllLaws.{objects_length}
 use Rattle.loader.specs.Admit.{held_answer, area_by}
 use Rattle.resultstages.specs.Stages.{result_answer, renewed_in, Resulting, Judging}
 use Rattle.answers.specs.declared.refusal.Refusal.{Refusal}
-use Rattle.answers.specs.Answer.{filed}
+use Rattle.answers.specs.Answer.{answer, filed}
 use Rattle.answers.specs.declared.answer.Answer.{Answer}
-use Rattle.answers.proofs.AnswerLaws.{filed_first, filed_on}
+use Rattle.answers.proofs.AnswerLaws.{filed_some, filed_first, filed_on}
 
 -- ---- result_into
 module _ (cell update work : List ℕ) (end count edits : ℕ) where
@@ -59,9 +59,9 @@ module _ (cell : List ℕ) (n : ℕ) (update work : List ℕ) (end count edits :
   result_topology = told ∙ ap (λ (k : ℕ). topology_of k (result_items cell update work end count edits)) (is ∙ sym so.comf)
 
   module _ (o : ℕ) (a : Answer) where
-    pub judged_refused : (r.code ≡ 0 → ⊥) → a ≡ filed 3 r → a ≡ result_answer o (renewed_in cell update work end count edits)
+    pub judged_refused : (r.code ≡ 0 → ⊥) → a ≡ answer r.code 3 r.index 0 r.offset → a ≡ result_answer o (renewed_in cell update work end count edits)
     unfolding result_answer
-    judged_refused ne e = rw (← result_topology) (filed_first 3 r (held_answer o (renewed_in cell update work end count edits)) a ne e)
+    judged_refused ne e = rw (← result_topology) (filed_first 3 r (held_answer o (renewed_in cell update work end count edits)) a ne (filed_some 3 r a ne e))
 
     module _ (none : r.code ≡ 0) (next : List ℕ) (e : a ≡ held_answer o (renewed_in cell update next end count edits))
         (same : places_of next end count edits ≡ places_of work end count edits) where

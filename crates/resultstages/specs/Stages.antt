@@ -1,9 +1,8 @@
 -- What is known before each stage of Apply, and what it answers. Nothing here need be believed: it is shown to be what crates/loader/specs/Apply.antt
 -- says. Assumes nothing.
-use Rattle.std.specs.Prelude.{ℕ, ◌+◌, ◌*◌, ◌≤◌, false, List, ◌≡◌, length}
+use Rattle.std.specs.Prelude.{ℕ, ◌+◌, ◌*◌, ◌≤◌, false, List, ◌≡◌, length, Ok}
 use Rattle.octets.specs.Number.{num_at}
 use Rattle.iso8211.specs.File.{frame_of}
-use Rattle.iso8211.specs.declared.file.Framed.TheVariants.{Records}
 use Rattle.words.specs.Order.{sorted}
 use Rattle.names.specs.NameWords.{name_words, items_at}
 use Rattle.reader.specs.Reader.{cell_fault, update_fault}
@@ -55,7 +54,7 @@ pub record Resulting (cell update work : List ℕ) (end count edits : ℕ) : Typ
 
 -- before it is judged
 pub record Judging (cell : List ℕ) (n : ℕ) (update work : List ℕ) (end count edits : ℕ) : Type 0 where
-  pub framed : frame_of cell ≡ Records n
+  pub framed : frame_of cell ≡ Ok n
   pub three : 3 ≤ n
   pub dspm : DspmThere cell
   pub comf : num_at (header_of cell).dspm 16 4 ≡ comf_at cell

@@ -6,7 +6,7 @@ ghost use Rattle.loader.specs.Apply.{result_of};
 ghost use Rattle.resultstages.specs.Stages.{result_answer, renewed_in, Resulting, Judging, Merging};
 
 use answers::Answer;
-use answers::answer::{answered, filed};
+use answers::answer::{answered, of_refusal};
 use answers::codes::{ROOM, SIZE};
 use layout::general::comf_of;
 use merge::woven;
@@ -77,12 +77,10 @@ fn judged_into(
     ensures out_after { out.new ≡ area_by result (renewed_in cell.now update.now work.old end count edits) out.old }
 {
     let comf = comf_of(cell, n);
-    let r = result_fault(
+    if let Err(r) = result_fault(
         cell, update, comf, work, end, count, edits, join, table, room,
-    );
-    let code = r.code;
-    if code != 0 {
-        return filed(3, r);
+    ) {
+        return of_refusal(3, r);
     }
     result_into(
         cell, update, work, end, count, edits, join, table, room, out,

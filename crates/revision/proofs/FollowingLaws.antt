@@ -8,6 +8,7 @@ use native.Mathlib.Omega.{arith}
 use lib.ListN.{length, get_or}
 use lib.Dec.{eqb}
 use borrow.Author.Tests.{eq-eqb, ne_eqb, eqb-true, eqb-false}
+use Rattle.std.specs.Prelude.{Some}
 use Rattle.octets.proofs.Cases.{true_or_false, eq_or_ne}
 use Rattle.iso8211.specs.Record.{end_of}
 use Rattle.iso8211.specs.File.{record_at}
@@ -17,7 +18,6 @@ use Rattle.items.specs.Word.{name_of, word_offset}
 use Rattle.names.specs.Premises.{Readable, Strict}
 use Rattle.names.specs.Names.{twice_of}
 use Rattle.lookups.specs.LookupWords.{lookup}
-use Rattle.lookups.specs.declared.lookup.Found.TheVariants.{At}
 use Rattle.reader.proofs.ReaderLaws.{readable, cell_parts, update_parts}
 use Rattle.items.specs.Item.{Item}
 use Rattle.held.proofs.CellLaws.{CellTold, cell_told}
@@ -83,7 +83,7 @@ unfolding change_of
 codes_none held s m two h j low high = codes_from held s (m - 2) 2 h j low (omega arith)
 
 -- ---- a name of rising words is found where it stands
-pub lookup_at : (ws : List ℕ) (p : ℕ) → Strict ws → p < length ws → lookup ws (name_of (get_or ws p 0)) ≡ At (word_offset (get_or ws p 0))
+pub lookup_at : (ws : List ℕ) (p : ℕ) → Strict ws → p < length ws → lookup ws (name_of (get_or ws p 0)) ≡ Some (word_offset (get_or ws p 0))
 unfolding lookup
 lookup_at [] p strict h = absurd (omega arith)
 lookup_at (w ∷ ws) zero strict h = rw (eq-eqb (name_of w) (name_of w) refl)

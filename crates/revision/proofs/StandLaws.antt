@@ -10,6 +10,7 @@ use native.Mathlib.Omega.{arith}
 use lib.ListN.{get_or}
 use lib.Dec.{eqb}
 use borrow.Author.Tests.{eqb-true, ne_eqb}
+use Rattle.std.specs.Prelude.{Some}
 use Rattle.octets.proofs.Cases.{true_or_false}
 use Rattle.iso8211.specs.File.{record_at}
 use Rattle.iso8211.proofs.Promise.{record_in}
@@ -19,7 +20,6 @@ use Rattle.items.specs.Word.{name_of}
 use Rattle.names.specs.NameWords.{name_words, items_at}
 use Rattle.lookups.specs.LookupWords.{lookup}
 use Rattle.names.specs.Names.{first_item}
-use Rattle.lookups.specs.declared.lookup.Found.TheVariants.{At}
 use Rattle.names.proofs.HeldLaws.{all_stand}
 use Rattle.names.proofs.OnceLaws.{once_rising}
 use Rattle.items.specs.Item.{Item, item_at}
@@ -121,10 +121,10 @@ module _ {cell : List ℕ} {n : ℕ} {update : List ℕ} {m : ℕ} (f : Followin
     code = rw new.is (codes_none (items_at cell (sorted (name_words false cell n))) update m (update_known f small).two none new.index (two_low new.index new.low)
         new.high)
 
-    found : lookup (sorted (name_words false cell n)) (name_at update by) ≡ At at
+    found : lookup (sorted (name_words false cell n)) (name_at update by) ≡ Some at
     found =
         let is = lookup_at (sorted (name_words false cell n)) old.word (once_rising false (cell_readable f) (cell_once f)) old.there in
-        ap (lookup (sorted (name_words false cell n))) (sym word_named) ∙ is ∙ ap At (sym old.stands)
+        ap (lookup (sorted (name_words false cell n))) (sym word_named) ∙ is ∙ ap Some (sym old.stands)
 
     parts : (version_at update by ≡ version_at cell at + 1) × (edit_allowed (amendment_at update by) (item_at cell at) ≡ true)
     parts =

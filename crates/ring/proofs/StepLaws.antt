@@ -7,6 +7,7 @@ use native.Mathlib.Omega.{arith}
 use lib.ListN.{length, get_or}
 use lib.Dec.{eqb}
 use borrow.Author.Tests.{eq-eqb, ne_eqb}
+use Rattle.std.specs.Prelude.{Option, Some, None}
 use Rattle.octets.specs.Number.{byte_at}
 use Rattle.octets.specs.Premises.{Reads}
 use Rattle.octets.proofs.Tests.{told_no, told_yes}
@@ -15,9 +16,6 @@ use Rattle.words.specs.Words.{word_at, words_in}
 use Rattle.words.proofs.WordsLaws.{words_length, words_at}
 use Rattle.lookups.specs.Lookup.{name_in}
 use Rattle.lookups.specs.LookupWords.{index_of}
-use Rattle.lookups.specs.declared.lookup.Found.{Found}
-use Rattle.lookups.specs.declared.lookup.Found.TheVariants.{At, Nothing}
-use Rattle.ring.specs.declared.step.Taken.TheVariants.{Edge, Missing}
 use Rattle.ring.specs.Walk.{ends_with, node_at, taken_with, taken_of}
 use Rattle.items.specs.Word.{end_in}
 use Rattle.ring.specs.Ring.{node_step, node_with, found, step, step_of, usage_good}
@@ -56,18 +54,18 @@ module _ (work : List ℕ) (m v i : ℕ) where
   ends_here x h there = there ∙ sym (words_at work m v i h)
 
 -- ---- the step along an edge: f is what the look-up of its name answered
-module _ (ws ends e : List ℕ) (name : ℕ) (f : Found) (named : name ≡ name_in e) (is : f ≡ index_of ws name) where
-  pub step_missing : f ≡ Nothing → Missing ≡ taken_of (index_of ws) (node_at ws ends) e
+module _ (ws ends e : List ℕ) (name : ℕ) (f : Option ℕ) (named : name ≡ name_in e) (is : f ≡ index_of ws name) where
+  pub step_missing : f ≡ None → None ≡ taken_of (index_of ws) (node_at ws ends) e
   unfolding taken_of taken_with
   step_missing h = rw (← named, ← is, h)
 
   -- w is the word of its ends
-  module _ (i w a b u : ℕ) (at : f ≡ At i) (noted : w ≡ get_or ends i 0) (first : a ≡ w / 4294967296) (last : b ≡ w % 4294967296) (usage : u ≡ byte_at e 6) where
-    pub step_back : byte_at e 5 ≡ 2 → Edge (step b a u) ≡ taken_of (index_of ws) (node_at ws ends) e
+  module _ (i w a b u : ℕ) (at : f ≡ Some i) (noted : w ≡ get_or ends i 0) (first : a ≡ w / 4294967296) (last : b ≡ w % 4294967296) (usage : u ≡ byte_at e 6) where
+    pub step_back : byte_at e 5 ≡ 2 → Some (step b a u) ≡ taken_of (index_of ws) (node_at ws ends) e
     unfolding taken_of taken_with step_of node_at end_in found
     step_back h = rw (eq-eqb (byte_at e 5) 2 h, ← named, ← is, at, ← noted, ← first, ← last, usage)
 
-    pub step_forth : (byte_at e 5 ≡ 2 → ⊥) → Edge (step a b u) ≡ taken_of (index_of ws) (node_at ws ends) e
+    pub step_forth : (byte_at e 5 ≡ 2 → ⊥) → Some (step a b u) ≡ taken_of (index_of ws) (node_at ws ends) e
     unfolding taken_of taken_with step_of node_at end_in found
     step_forth ne = rw (ne_eqb (byte_at e 5) 2 ne, ← named, ← is, at, ← noted, ← first, ← last, usage)
 

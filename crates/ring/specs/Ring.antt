@@ -1,5 +1,5 @@
 -- Document 01's Ring, of one item: whether the edges of an area run in closed rings. Assumes nothing.
-use Rattle.std.specs.Prelude.{ℕ, Bool, true, false, cond, ◌&&◌, ◌||◌, List, [], ◌∷◌, get_or, eqb}
+use Rattle.std.specs.Prelude.{ℕ, Bool, true, false, cond, ◌&&◌, ◌||◌, List, [], ◌∷◌, get_or, eqb, Option, Some, None}
 use Rattle.answers.specs.Codes.{RING}
 use Rattle.octets.specs.Number.{byte_at, num_at}
 use Rattle.entries.specs.Rules.{through}
@@ -7,8 +7,6 @@ use Rattle.table.specs.Table.{VRPT, FSPT}
 use Rattle.items.specs.Item.{Item}
 use Rattle.lookups.specs.Lookup.{name_in}
 use Rattle.names.specs.Held.{place_in}
-use Rattle.lookups.specs.declared.lookup.Found.{Found}
-use Rattle.lookups.specs.declared.lookup.Found.TheVariants.{At, Nothing}
 use Rattle.ring.specs.declared.step.Step.{Step}
 use Rattle.table.specs.Offsets.{RCID, VRPT_TOPI, FSPT_ORNT, FSPT_USAG}
 
@@ -29,9 +27,9 @@ unfoldable pub nodes_of : ℕ → List Item → List ℕ
 nodes_of topi [] = []
 nodes_of topi (i ∷ is) = node_of topi i ∷ nodes_of topi is
 
-unfoldable pub found : List ℕ → Found → ℕ
-found xs (At k) = get_or xs k 0
-found xs Nothing = 0
+unfoldable pub found : List ℕ → Option ℕ → ℕ
+found xs (Some k) = get_or xs k 0
+found xs None = 0
 
 -- of the edge that has this name: for TOPI 1 its begin, else its end
 unfoldable pub node_in : List Item → ℕ → ℕ → ℕ

@@ -6,10 +6,10 @@ ghost use Rattle.ring.specs.Ring.{node_step};
 ghost use Rattle.items.specs.Premises.{Listed};
 ghost use Rattle.ring.specs.Walk.{ends_with};
 
-use iso8211::field::Head;
+use iso8211::field::Record;
 use items::cursor::begin;
 use items::step::next;
-use items::{Next, word};
+use items::word;
 use octets::number::{get4, wide};
 use table::{kinds, offsets};
 
@@ -25,21 +25,19 @@ fn node_step(topi: u32, node: u32, e: &[u8]) -> u32
 }
 
 // The begin and the end of the edge at `at` in one word.
-pub fn ends_of(s: &[u8], at: usize, h: Head) -> u64
-    requires { Listed s.now at h VRPT }
-    ensures { result ≡ ends_with (entries_at s.now at VRPT) }
+pub fn ends_of(r: &Record) -> u64
+    requires { Listed r.now.file.now r.now.at r.now.head VRPT }
+    ensures { result ≡ ends_with (entries_at r.now.file.now r.now.at VRPT) }
 {
     let mut first: u32 = 0;
     let mut last: u32 = 0;
     let mut c = begin();
-    loop {
-        let Next::Entry(from, to, after) = next(s, at, h, kinds::VRPT, c) else {
-            return first as u64 * word::BEGIN_WEIGHT + last as u64;
-        };
-        first = node_step(1, first, &s[from..to]);
-        last = node_step(2, last, &s[from..to]);
+    while let Some((from, to, after)) = next(r, kinds::VRPT, c) {
+        first = node_step(1, first, &r.file[from..to]);
+        last = node_step(2, last, &r.file[from..to]);
         c = after;
     }
+    first as u64 * word::BEGIN_WEIGHT + last as u64
 }
 
 // The same of an edge that has these two VRPT.

@@ -15,13 +15,12 @@ ghost use Rattle.names.specs.Premises.{Noted};
 ghost use Rattle.ring.specs.Walk.{node_at, area_closed, area_code};
 
 use answers::codes::RING;
-use iso8211::field::Head;
-use items::Next;
+use iso8211::field::Record;
 use items::cursor::begin;
 use items::step::next;
 use lookups::starts::{Starts, starts_of};
 use pointer::names_code;
-use step::{Taken, step_of};
+use step::step_of;
 use table::kinds;
 
 pub mod ends;
@@ -48,67 +47,57 @@ pub fn usage_good(exterior: bool, usage: u32) -> bool
 
 // Whether every edge of the area at `at` is there and they run in closed rings. In a ring t is the
 // edge before the cursor.
-fn rings_closed(
-    s: &[u8],
-    at: usize,
-    h: Head,
-    work: &[u8],
-    m: usize,
-    v: usize,
-    starts: Starts,
-) -> bool
-    requires { Listed s.now at h FSPT × Noted work.now m v }
+fn rings_closed(r: &Record, work: &[u8], m: usize, v: usize, starts: Starts) -> bool
+    requires { Listed r.now.file.now r.now.at r.now.head FSPT × Noted work.now m v }
     ensures { result ≡ area_closed (index_of (words_in work.now 0 m)) (node_at (words_in work.now 0 m) (words_in work.now m v))
-        (entries_at s.now at FSPT) }
+        (entries_at r.now.file.now r.now.at FSPT) }
 {
     let mut exterior = true;
     let mut c = begin();
-    'rings: loop {
-        let Next::Entry(from, to, after) = next(s, at, h, kinds::FSPT, c) else {
-            return true;
-        };
-        let Taken::Edge(first) = step_of(&s[from..to], work, m, v, starts) else {
-            break 'rings;
+    'rings: while let Some((from, to, after)) = next(r, kinds::FSPT, c) {
+        let Some(first) = step_of(&r.file[from..to], work, m, v, starts) else {
+            return false;
         };
         let start = first.from;
         let mut t = first;
         c = after;
+        // A loop: it goes on until an edge ends where the ring began, and only behind that test takes the next.
         loop {
             if !usage_good(exterior, t.usage) {
-                break 'rings;
+                return false;
             }
             if t.to == start {
                 exterior = false;
                 continue 'rings;
             }
-            let Next::Entry(from, to, after) = next(s, at, h, kinds::FSPT, c) else {
-                break 'rings;
+            let Some((from, to, after)) = next(r, kinds::FSPT, c) else {
+                return false;
             };
-            let Taken::Edge(u) = step_of(&s[from..to], work, m, v, starts) else {
-                break 'rings;
+            let Some(u) = step_of(&r.file[from..to], work, m, v, starts) else {
+                return false;
             };
             if u.from != t.to {
-                break 'rings;
+                return false;
             }
             t = u;
             c = after;
         }
     }
-    false
+    true
 }
 
 // The code of the FSPT of the area at `at`, by the words and notes of m items, of which v are
 // vectors. Only of an area with a fault the names are looked up again, to tell which it is.
-pub fn area_code(s: &[u8], at: usize, h: Head, work: &[u8], m: usize, v: usize) -> u32
-    requires { Listed s.now at h FSPT × Noted work.now m v }
+pub fn area_code(r: &Record, work: &[u8], m: usize, v: usize) -> u32
+    requires { Listed r.now.file.now r.now.at r.now.head FSPT × Noted work.now m v }
     ensures { result ≡ area_code (index_of (words_in work.now 0 m)) (node_at (words_in work.now 0 m) (words_in work.now m v))
-        (entries_at s.now at FSPT) }
+        (entries_at r.now.file.now r.now.at FSPT) }
 {
     let starts = starts_of(work, m);
-    if rings_closed(s, at, h, work, m, v, starts) {
+    if rings_closed(r, work, m, v, starts) {
         return 0;
     }
-    let missing = names_code(s, at, h, kinds::FSPT, work, m, v);
+    let missing = names_code(r, kinds::FSPT, work, m, v);
     if missing != 0 {
         return missing;
     }

@@ -6,14 +6,13 @@
 
 ghost use Rattle.std.specs.Prelude.{◌≤◌, ◌≡◌};
 ghost use Rattle.headvalues.specs.Dspm.{most_comf};
-ghost use Rattle.iso8211.specs.Premises.{HeadOf};
 ghost use Rattle.items.specs.Premises.{LaidOut, Identified};
 ghost use Rattle.items.specs.Item.{item_at};
 ghost use Rattle.vectorshape.specs.Shape.{shape_good, shape_code};
 
 use answers::codes::SHAPE;
 use feature::feature_good;
-use iso8211::field::Head;
+use iso8211::field::Record;
 use items::identity::rcnm_of;
 use vectorshape::vector::vector_good;
 
@@ -22,22 +21,22 @@ pub mod spatial;
 
 // Whether the record at `at` has the shape of its class, coordinates being counted in parts of
 // 1 / comf of a degree.
-pub fn shape_good(s: &[u8], at: usize, h: Head, comf: u32) -> bool
-    requires { LaidOut s.now at × HeadOf s.now at h × Identified s.now at × (comf ≤ most_comf) }
-    ensures { result ≡ shape_good comf (item_at s.now at) }
+pub fn shape_good(r: &Record, comf: u32) -> bool
+    requires { LaidOut r.now.file.now r.now.at × Identified r.now.file.now r.now.at × (comf ≤ most_comf) }
+    ensures { result ≡ shape_good comf (item_at r.now.file.now r.now.at) }
 {
-    if rcnm_of(s, at, h) == 100 {
-        return feature_good(s, at, h);
+    if rcnm_of(r) == 100 {
+        return feature_good(r);
     }
-    vector_good(s, at, h, comf)
+    vector_good(r, comf)
 }
 
 // The code of the item at `at`: 0 if it has that shape.
-pub fn shape_code(s: &[u8], at: usize, h: Head, comf: u32) -> u32
-    requires { LaidOut s.now at × HeadOf s.now at h × Identified s.now at × (comf ≤ most_comf) }
-    ensures { result ≡ shape_code comf (item_at s.now at) }
+pub fn shape_code(r: &Record, comf: u32) -> u32
+    requires { LaidOut r.now.file.now r.now.at × Identified r.now.file.now r.now.at × (comf ≤ most_comf) }
+    ensures { result ≡ shape_code comf (item_at r.now.file.now r.now.at) }
 {
-    if shape_good(s, at, h, comf) {
+    if shape_good(r, comf) {
         return 0;
     }
     SHAPE

@@ -13,7 +13,7 @@ use Rattle.iso8211.proofs.Promise.{records_few, last_ends}
 use Rattle.names.specs.Premises.{Readable}
 use Rattle.names.specs.Names.{first_item, twice_of}
 use Rattle.reader.specs.Reader.{front_of, cell_fault, update_fault, cell_checked, both_checked, both_fault, fronted}
-use Rattle.reader.specs.declared.front.Front.TheVariants.{Count}
+use Rattle.std.specs.Prelude.{Result, Ok}
 use Rattle.readboth.proofs.CallLaws.{counted, work_told}
 use Rattle.reader.proofs.ReaderLaws.{cell_good, update_good, cell_parts, update_parts}
 use Rattle.shownames.specs.Named.{is_named}
@@ -21,14 +21,13 @@ use Rattle.shownames.specs.Premises.{is_class}
 use Rattle.show.specs.Show.{span_of, found_sight, absent, cell_sight, both_sight, after_reading, alone_sight, pair_sight, update_sight, sight_of, sight_answer, bytes_of_span}
 use Rattle.show.specs.Show.{sight_bytes, show_of, shown_part}
 use Rattle.show.specs.Place.{within, place_of_span, sight_place, shown_place}
-use Rattle.show.specs.declared.sight.Sight.{Sight}
-use Rattle.show.specs.declared.sight.Sight.TheVariants.{Shown}
 use Rattle.shownames.proofs.NamedLaws.{named_only, named_none, other_class}
 use Rattle.answers.specs.Answer.{answer, filed}
 use Rattle.reader.specs.Lent.{FileOpened}
 use Rattle.answers.specs.declared.answer.Answer.{Answer}
 use Rattle.answers.proofs.AnswerLaws.{filed_told}
 use Rattle.readboth.proofs.BothLaws.{both_apart}
+use Rattle.show.specs.declared.span.Span.{Span}
 
 -- the whole bytes of record k
 abbrev pub record_bytes : List ℕ → ℕ → List ℕ
@@ -47,14 +46,14 @@ pub record Gives (cell update : List ℕ) (w rcnm rcid : ℕ) (a : Answer) (part
   pub shown : shown_part cell update w rcnm rcid ≡ part
   pub lies : (here there : ℕ × ℕ) → shown_place here there cell update w rcnm rcid ≡ at here there
 
-gives : (cell update : List ℕ) (w rcnm rcid : ℕ) (sight : Sight) → sight_of cell update w rcnm rcid ≡ sight
+gives : (cell update : List ℕ) (w rcnm rcid : ℕ) (sight : Result Span Answer) → sight_of cell update w rcnm rcid ≡ sight
     → Gives cell update w rcnm rcid (sight_answer sight) (sight_bytes cell update sight) (λ here there. sight_place here there sight)
 unfolding show_of shown_part shown_place
 gives cell update w rcnm rcid sight e =
     record { answered = ap sight_answer e; shown = ap (sight_bytes cell update) e; lies = λ here there. ap (sight_place here there) e }
 
 -- ---- a cell without an update
-module _ (cell update : List ℕ) (w n rcnm rcid : ℕ) (front : front_of 1 cell ≡ Count n) (none : length update ≡ 0) (fine : (cell_checked cell w n).code ≡ 0) where
+module _ (cell update : List ℕ) (w n rcnm rcid : ℕ) (front : front_of 1 cell ≡ Ok n) (none : length update ≡ 0) (fine : (cell_checked cell w n).code ≡ 0) where
   alone_sight_lem : sight_of cell update w rcnm rcid ≡ cell_sight cell n rcnm rcid
   unfolding sight_of fronted update_sight alone_sight after_reading
   alone_sight_lem = rw (front, eq-eqb (length update) 0 none, eq-eqb (cell_checked cell w n).code 0 fine)
@@ -73,7 +72,7 @@ module _ (cell update : List ℕ) (w n rcnm rcid : ℕ) (front : front_of 1 cell
       → Gives cell update w rcnm rcid (answer 0 0 0 (size_at cell (record_at cell k)) 0) (record_bytes cell k) (of_cell_lem (record_at cell k))
   unfolding cell_sight found_sight span_of sight_answer sight_bytes bytes_of_span sight_place place_of_span first_item
   alone_shown k low high is =
-      gives cell update w rcnm rcid (Shown (span_of false cell (record_at cell k))) (alone_sight_lem ∙ rw (named_only alone_good alone_once k rcnm rcid low high is))
+      gives cell update w rcnm rcid (Ok (span_of false cell (record_at cell k))) (alone_sight_lem ∙ rw (named_only alone_good alone_once k rcnm rcid low high is))
 
   pub alone_absent : ((k : ℕ) → 3 ≤ k → k < n → is_named cell (record_at cell k) rcnm rcid ≡ false) → Gives cell update w rcnm rcid (answer 22 0 0 0 0) [] (of_cell_lem 0)
   unfolding cell_sight found_sight absent sight_answer sight_bytes sight_place first_item
@@ -85,7 +84,7 @@ module _ (cell update : List ℕ) (w n rcnm rcid : ℕ) (front : front_of 1 cell
   alone_class held small other = gives cell update w rcnm rcid absent (alone_sight_lem ∙ rw (other_class alone_good alone_once held rcnm rcid small other))
 
 -- ---- a cell and an update, whichever cell that is of
-module _ (cell update : List ℕ) (w n m rcnm rcid : ℕ) (front : front_of 1 cell ≡ Count n) (second : front_of 2 update ≡ Count m)
+module _ (cell update : List ℕ) (w n m rcnm rcid : ℕ) (front : front_of 1 cell ≡ Ok n) (second : front_of 2 update ≡ Ok m)
     (fine : (both_checked cell update w n m).code ≡ 0) where
   update_short : FileOpened update m
   update_short = counted 2 update (front_of 2 update) m refl second
@@ -112,7 +111,7 @@ module _ (cell update : List ℕ) (w n m rcnm rcid : ℕ) (front : front_of 1 ce
       → Gives cell update w rcnm rcid (answer 0 0 0 (size_at update (record_at update k)) 0) (record_bytes update k) (of_update_lem (record_at update k))
   unfolding both_sight found_sight span_of sight_answer sight_bytes bytes_of_span sight_place place_of_span first_item
   update_shown k low high is =
-      gives cell update w rcnm rcid (Shown (span_of true update (record_at update k)))
+      gives cell update w rcnm rcid (Ok (span_of true update (record_at update k)))
       (pair_sight_lem ∙ rw (named_only pair_come (update_parts update m pair_read.1).1 k rcnm rcid low high is))
 
   module _ (lost : (k : ℕ) → 2 ≤ k → k < m → is_named update (record_at update k) rcnm rcid ≡ false) where
@@ -125,7 +124,7 @@ module _ (cell update : List ℕ) (w n m rcnm rcid : ℕ) (front : front_of 1 ce
         → Gives cell update w rcnm rcid (answer 0 0 0 (size_at cell (record_at cell k)) 0) (record_bytes cell k) (of_cell_lem (record_at cell k))
     unfolding cell_sight found_sight span_of sight_answer sight_bytes bytes_of_span sight_place place_of_span first_item
     cell_shown k low high is =
-        gives cell update w rcnm rcid (Shown (span_of false cell (record_at cell k)))
+        gives cell update w rcnm rcid (Ok (span_of false cell (record_at cell k)))
         (rest_sight ∙ rw (named_only pair_held (cell_parts cell n pair_read.0).1 k rcnm rcid low high is))
 
     -- "22 Absent: Show finds no such name"

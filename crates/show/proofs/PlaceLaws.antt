@@ -7,8 +7,7 @@ use Rattle.answers.specs.declared.answer.Answer.{Answer}
 use Rattle.show.specs.Show.{sight_of}
 use Rattle.show.specs.Place.{within, place_of_span, sight_place, shown_place}
 use Rattle.show.specs.declared.span.Span.{Span}
-use Rattle.show.specs.declared.sight.Sight.{Sight}
-use Rattle.show.specs.declared.sight.Sight.TheVariants.{Shown, Denied}
+use Rattle.std.specs.Prelude.{Result, Ok, Err}
 
 -- ---- part
 pub part_place : (s : ℕ × ℕ) (from : ℕ) (r : ℕ × ℕ) → r.0 ≡ s.0 → r.1 ≡ s.1 + from → r ≡ within s from
@@ -25,12 +24,12 @@ module _ (cell update : ℕ × ℕ) (span : Span) (r : ℕ × ℕ) where
   cell_place f e = e ∙ rw f
 
 -- ---- sight_part
-module _ (cell update : ℕ × ℕ) (sight : Sight) where
-  pub shown_place_lem : (span : Span) (r : ℕ × ℕ) → sight ≡ Shown span → r ≡ place_of_span cell update span → r ≡ sight_place cell update sight
+module _ (cell update : ℕ × ℕ) (sight : Result Span Answer) where
+  pub shown_place_lem : (span : Span) (r : ℕ × ℕ) → sight ≡ Ok span → r ≡ place_of_span cell update span → r ≡ sight_place cell update sight
   unfolding sight_place
   shown_place_lem span r told e = e ∙ rw told
 
-  pub denied_there : (a : Answer) → sight ≡ Denied a → within cell 0 ≡ sight_place cell update sight
+  pub denied_there : (a : Answer) → sight ≡ Err a → within cell 0 ≡ sight_place cell update sight
   unfolding sight_place
   denied_there a told = rw told
 
@@ -38,7 +37,7 @@ module _ (cell update : ℕ × ℕ) (sight : Sight) where
   denied_place r there block byte = part_place cell 0 r block byte ∙ there
 
 -- ---- show
-pub show_place : (here there : ℕ × ℕ) (cell update : List ℕ) (w rcnm rcid : ℕ) (sight : Sight) → sight ≡ sight_of cell update w rcnm rcid → (r : ℕ × ℕ)
+pub show_place : (here there : ℕ × ℕ) (cell update : List ℕ) (w rcnm rcid : ℕ) (sight : Result Span Answer) → sight ≡ sight_of cell update w rcnm rcid → (r : ℕ × ℕ)
     → r ≡ sight_place here there sight → r ≡ shown_place here there cell update w rcnm rcid
 unfolding shown_place
 show_place here there cell update w rcnm rcid sight is r e = e ∙ rw is

@@ -1,13 +1,11 @@
 -- What the code and its proofs want; nothing here need be believed. Assumes nothing.
-use Rattle.std.specs.Prelude.{ℕ, ◌+◌, ◌-◌, ◌*◌, ◌≤◌, Bool, true, false, cond, List, ◌≡◌, length}
+use Rattle.std.specs.Prelude.{ℕ, ◌+◌, ◌-◌, ◌*◌, ◌≤◌, Bool, true, false, cond, List, ◌≡◌, length, Result, Ok, Err}
 use Rattle.words.specs.Words.{words_in}
 use Rattle.words.specs.Order.{sorted}
 use Rattle.names.specs.NameWords.{name_words}
 use Rattle.names.specs.Premises.{Readable}
 use Rattle.names.specs.Names.{first_item, twice_of}
 use Rattle.show.specs.declared.span.Span.{Span}
-use Rattle.show.specs.declared.sight.Sight.{Sight}
-use Rattle.show.specs.declared.sight.Sight.TheVariants.{Shown, Denied}
 use Rattle.answers.specs.declared.answer.Answer.{Answer}
 
 -- ---- a readable file of n records without a name twice; the words of its vectors and features, in order, from word `from` of the work area on
@@ -26,6 +24,6 @@ pub record BothListed (cell : List ℕ) (n : ℕ) (update : List ℕ) (m : ℕ) 
 pub record SpanIn (cell update : List ℕ) (span : Span) : Type 0 where
   pub inside : span.from + span.size ≤ length (cond span.update update cell)
 
-pub record SightIn (cell update : List ℕ) (sight : Sight) : Type 0 where
-  pub each : (span : Span) → sight ≡ Shown span → SpanIn cell update span
-  pub refused : (a : Answer) → sight ≡ Denied a → a.code ≡ 0 → ⊥
+pub record SightIn (cell update : List ℕ) (sight : Result Span Answer) : Type 0 where
+  pub each : (span : Span) → sight ≡ Ok span → SpanIn cell update span
+  pub refused : (a : Answer) → sight ≡ Err a → a.code ≡ 0 → ⊥

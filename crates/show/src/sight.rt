@@ -8,26 +8,25 @@ use crate::span::{Span, lent, span_of};
 use answers::Answer;
 use answers::answer::answered;
 use answers::codes::ABSENT;
-use lookups::lookup::Found;
 use shownames::named::place_named;
 
-// The record that is shown, or the answer of a refusal.
-#[derive(Clone, Copy)]
-pub enum Sight {
-    Shown(Span),
-    Denied(Answer),
-}
-
 // The record of this name of a readable cell of n records, whose words stand in the work area from
-// word `from` on.
-pub fn cell_sight(cell: &[u8], n: usize, work: &[u8], from: usize, rcnm: u32, rcid: u32) -> Sight
+// word `from` on; or the answer of a refusal.
+pub fn cell_sight(
+    cell: &[u8],
+    n: usize,
+    work: &[u8],
+    from: usize,
+    rcnm: u32,
+    rcid: u32,
+) -> Result<Span, Answer>
     requires { Listed false cell.now n work.now from }
     ensures { result ≡ cell_sight cell.now n rcnm rcid }
 {
-    let Found::At(at) = place_named(work, from, n - 3, rcnm, rcid) else {
-        return Sight::Denied(answered(ABSENT, 0, 0, 0, 0));
+    let Some(at) = place_named(work, from, n - 3, rcnm, rcid) else {
+        return Err(answered(ABSENT, 0, 0, 0, 0));
     };
-    Sight::Shown(span_of(cell, at, false))
+    Ok(span_of(cell, at, false))
 }
 
 // The record of this name of a readable update of m records, or else of the cell. The cell's words
@@ -40,34 +39,34 @@ pub fn both_sight(
     work: &[u8],
     rcnm: u32,
     rcid: u32,
-) -> Sight
+) -> Result<Span, Answer>
     requires { BothListed cell.now n update.now m work.now }
     ensures { result ≡ both_sight cell.now n update.now m rcnm rcid }
 {
     let half = n - 3 + (m - 2);
-    let Found::At(at) = place_named(work, half + (n - 3), m - 2, rcnm, rcid) else {
+    let Some(at) = place_named(work, half + (n - 3), m - 2, rcnm, rcid) else {
         return cell_sight(cell, n, work, half, rcnm, rcid);
     };
-    Sight::Shown(span_of(update, at, true))
+    Ok(span_of(update, at, true))
 }
 
 // The answer: for a part its length.
-pub fn sight_answer(sight: Sight) -> Answer
+pub fn sight_answer(sight: Result<Span, Answer>) -> Answer
     ensures { result ≡ sight_answer sight }
 {
     match sight {
-        Sight::Shown(span) => answered(0, 0, 0, span.size, 0),
-        Sight::Denied(a) => a,
+        Ok(span) => answered(0, 0, 0, span.size, 0),
+        Err(a) => a,
     }
 }
 
 // The part; for a refusal the cell's first 0 bytes.
-pub fn sight_part<'a>(cell: &'a [u8], update: &'a [u8], sight: Sight) -> &'a [u8]
+pub fn sight_part<'a>(cell: &'a [u8], update: &'a [u8], sight: Result<Span, Answer>) -> &'a [u8]
     requires { SightIn cell.now update.now sight }
     ensures result_value { result.now ≡ sight_bytes cell.now update.now sight }
     ensures ref_ptr_value { result.ref_ptr ≡ sight_place cell.entry.ref_ptr update.entry.ref_ptr sight }
 {
-    let Sight::Shown(span) = sight else {
+    let Ok(span) = sight else {
         let none: usize = 0;
         return &cell[none..none];
     };

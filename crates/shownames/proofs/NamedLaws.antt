@@ -8,6 +8,7 @@ use native.Mathlib.Omega.{arith}
 use lib.ListN.{length, get_or}
 use lib.Dec.{eqb}
 use borrow.Author.Tests.{eqb-true, eq-eqb}
+use Rattle.std.specs.Prelude.{Option, Some, None}
 use Rattle.octets.proofs.ListLaws.{member_at, member_place}
 use Rattle.octets.specs.Lists.{is_in}
 use Rattle.octets.specs.Number.{byte_at}
@@ -27,8 +28,6 @@ use Rattle.names.proofs.ItemsLaws.{twice_words}
 use Rattle.names.specs.Premises.{Readable, Strict}
 use Rattle.names.specs.Names.{first_item, twice_of}
 use Rattle.names.specs.Neighbours.{least_repeat}
-use Rattle.lookups.specs.declared.lookup.Found.{Found}
-use Rattle.lookups.specs.declared.lookup.Found.TheVariants.{At, Nothing}
 use Rattle.names.specs.declared.twice.Repeat.{Repeat}
 use Rattle.names.proofs.HeldLaws.{rcid_small}
 use Rattle.lookups.proofs.LookupLaws.{found_cases}
@@ -42,7 +41,7 @@ use Rattle.shownames.specs.Premises.{is_class, place_named}
 
 -- ---- the walk: no record has the name; or those that have it stand at p
 none_from : (n : ℕ) (s : List ℕ) (i at rcnm rcid : ℕ) → at ≡ record_at s i
-    → ((j : ℕ) → i ≤ j → j < i + n → is_named s (record_at s j) rcnm rcid ≡ false) → named_from n s at rcnm rcid ≡ Nothing
+    → ((j : ℕ) → i ≤ j → j < i + n → is_named s (record_at s j) rcnm rcid ≡ false) → named_from n s at rcnm rcid ≡ None
 unfolding named_from
 none_from zero s i at rcnm rcid e none = refl
 none_from (suc n) s i at rcnm rcid e none =
@@ -56,7 +55,7 @@ named_later s i k at rcnm rcid e f t low =
 
 here_from : (n : ℕ) (s : List ℕ) (i at p rcnm rcid : ℕ) → at ≡ record_at s i
     → ((j : ℕ) → i ≤ j → j < i + n → is_named s (record_at s j) rcnm rcid ≡ true → record_at s j ≡ p)
-    → (k : ℕ) → i ≤ k → k < i + n → is_named s (record_at s k) rcnm rcid ≡ true → named_from n s at rcnm rcid ≡ At p
+    → (k : ℕ) → i ≤ k → k < i + n → is_named s (record_at s k) rcnm rcid ≡ true → named_from n s at rcnm rcid ≡ Some p
 unfolding named_from
 here_from zero s i at p rcnm rcid e only k low high is = absurd (omega arith)
 here_from (suc n) s i at p rcnm rcid e only k low high is =
@@ -67,25 +66,26 @@ here_from (suc n) s i at p rcnm rcid e only k low high is =
     (true_or_false (is_named s at rcnm rcid))
 
 -- what is found is a record of the walk
-found_from : (n : ℕ) (s : List ℕ) (i at p rcnm rcid : ℕ) → at ≡ record_at s i → named_from n s at rcnm rcid ≡ At p
+found_from : (n : ℕ) (s : List ℕ) (i at p rcnm rcid : ℕ) → at ≡ record_at s i → named_from n s at rcnm rcid ≡ Some p
     → (k : ℕ) × (i ≤ k) × (k < i + n) × (p ≡ record_at s k)
 unfolding named_from
 found_from zero s i at p rcnm rcid e told = absurd (let z : ◌≡◌ {A = ℕ} 0 1 = cc in omega arith)
 found_from (suc n) s i at p rcnm rcid e told = pick (true_or_false (is_named s at rcnm rcid)) (found_from n s (i + 1) (end_of s at) p rcnm rcid (at_next s i at e)) where
   pick : (is_named s at rcnm rcid ≡ true) ⊎ (is_named s at rcnm rcid ≡ false)
-      → (named_from n s (end_of s at) rcnm rcid ≡ At p → (k : ℕ) × (i + 1 ≤ k) × (k < i + 1 + n) × (p ≡ record_at s k)) → (k : ℕ) × (i ≤ k) × (k < i + suc n) × (p ≡ record_at s k)
+      → (named_from n s (end_of s at) rcnm rcid ≡ Some p → (k : ℕ) × (i + 1 ≤ k) × (k < i + 1 + n) × (p ≡ record_at s k))
+      → (k : ℕ) × (i ≤ k) × (k < i + suc n) × (p ≡ record_at s k)
   pick way rest =
-      ⊎_elim (λ (t : is_named s at rcnm rcid ≡ true). let same : At at ≡ At p = rw t at told in let q : at ≡ p = cc in (i, omega arith, omega arith, sym q ∙ e))
+      ⊎_elim (λ (t : is_named s at rcnm rcid ≡ true). let same : Some at ≡ Some p = rw t at told in let q : at ≡ p = cc in (i, omega arith, omega arith, sym q ∙ e))
       (λ (f : is_named s at rcnm rcid ≡ false). let r = rest (rw f at told) in (r.0, omega arith, omega arith, r.3)) way
 
-pub named_record : (update : Bool) (s : List ℕ) (n p rcnm rcid : ℕ) → named_in update s n rcnm rcid ≡ At p → (k : ℕ) × (first_item update ≤ k) × (k < n) × (p ≡ record_at s k)
+pub named_record : (update : Bool) (s : List ℕ) (n p rcnm rcid : ℕ) → named_in update s n rcnm rcid ≡ Some p → (k : ℕ) × (first_item update ≤ k) × (k < n) × (p ≡ record_at s k)
 unfolding named_in
 named_record update s n p rcnm rcid told =
     let r = found_from (n - first_item update) s (first_item update) (record_at s (first_item update)) p rcnm rcid refl told in (r.0, r.1, omega arith, r.3)
 
 -- no record that has the name, nothing found
 pub named_none : (update : Bool) (s : List ℕ) (n rcnm rcid : ℕ) → ((k : ℕ) → first_item update ≤ k → k < n → is_named s (record_at s k) rcnm rcid ≡ false)
-    → named_in update s n rcnm rcid ≡ Nothing
+    → named_in update s n rcnm rcid ≡ None
 unfolding named_in
 named_none update s n rcnm rcid none =
     none_from (n - first_item update) s (first_item update) (record_at s (first_item update)) rcnm rcid refl (λ j low high. none j low (omega arith))
@@ -196,7 +196,7 @@ module _ {update : Bool} {s : List ℕ} {n : ℕ} (good : Readable update s n) (
       sym (word_offset_lem s (record_at s j) sj) ∙ ap (λ (w : ℕ). word_offset w) words ∙ word_offset_lem s (record_at s k) sk
 
   -- the record that has the name is the one that is found
-  pub named_only : (k rcnm rcid : ℕ) → first_item update ≤ k → k < n → is_named s (record_at s k) rcnm rcid ≡ true → named_in update s n rcnm rcid ≡ At (record_at s k)
+  pub named_only : (k rcnm rcid : ℕ) → first_item update ≤ k → k < n → is_named s (record_at s k) rcnm rcid ≡ true → named_in update s n rcnm rcid ≡ Some (record_at s k)
   unfolding named_in
   named_only k rcnm rcid low high is =
       here_from (n - first_item update) s (first_item update) (record_at s (first_item update)) (record_at s k) rcnm rcid refl
@@ -218,14 +218,14 @@ module _ {update : Bool} {s : List ℕ} {n : ℕ} (good : Readable update s n) (
         ⊎_elim (λ (t : is_named s (record_at s j) rcnm rcid ≡ true). absurd (other t)) (λ (f : is_named s (record_at s j) rcnm rcid ≡ false). f)
         (true_or_false (is_named s (record_at s j) rcnm rcid))
 
-    look_none : lookup words name ≡ Nothing → named_in update s n rcnm rcid ≡ Nothing
+    look_none : lookup words name ≡ None → named_in update s n rcnm rcid ≡ None
     unfolding named_in
     look_none e =
         none_from (n - first_item update) s (first_item update) (record_at s (first_item update)) rcnm rcid refl
         (λ j low high.
         not_named j (λ (t : is_named s (record_at s j) rcnm rcid ≡ true). lost_record good name e j low (within j low high) (named_number s (record_at s j) rcnm rcid t)))
 
-    look_at : Class rcnm → (p : ℕ) → lookup words name ≡ At p → named_in update s n rcnm rcid ≡ At p
+    look_at : Class rcnm → (p : ℕ) → lookup words name ≡ Some p → named_in update s n rcnm rcid ≡ Some p
     unfolding named_in
     look_at class p e =
         let r = found_record good name p e in
@@ -237,7 +237,7 @@ module _ {update : Bool} {s : List ℕ} {n : ℕ} (good : Readable update s n) (
         (λ j low high t. one_place j k low (within j low high) r.1 r.2 (named_number s (record_at s j) rcnm rcid t ∙ sym number) ∙ r.3) k r.1
         (let a = r.1 in let b = r.2 in omega arith) is
 
-    pub other_class : is_class rcnm ≡ false → named_in update s n rcnm rcid ≡ Nothing
+    pub other_class : is_class rcnm ≡ false → named_in update s n rcnm rcid ≡ None
     unfolding named_in
     other_class f =
         none_from (n - first_item update) s (first_item update) (record_at s (first_item update)) rcnm rcid refl
@@ -255,16 +255,16 @@ module _ {update : Bool} {s : List ℕ} {n : ℕ} (good : Readable update s n) (
     place_named_lem =
         ⊎_elim (λ (t : is_class rcnm ≡ true).
         rw t
-        (⊎_elim (λ (e : lookup words name ≡ Nothing). e ∙ sym (look_none e)) (λ (q : (p : ℕ) × (lookup words name ≡ At p)). q.1 ∙ sym (look_at (class_told rcnm t) q.0 q.1))
+        (⊎_elim (λ (e : lookup words name ≡ None). e ∙ sym (look_none e)) (λ (q : (p : ℕ) × (lookup words name ≡ Some p)). q.1 ∙ sym (look_at (class_told rcnm t) q.0 q.1))
         (found_cases (lookup words name))))
         (λ (f : is_class rcnm ≡ false). rw f (sym (other_class f))) (true_or_false (is_class rcnm))
 
 -- ---- place_named
 module _ (ws : List ℕ) (rcnm rcid : ℕ) (b : Bool) (is : b ≡ is_class rcnm) where
-  pub place_other : not b ≡ true → Nothing ≡ place_named ws rcnm rcid
+  pub place_other : not b ≡ true → None ≡ place_named ws rcnm rcid
   unfolding place_named
   place_other h = rw (told_no b (is_class rcnm) is h)
 
-  pub place_looked : (name : ℕ) (r : Found) → not b ≡ false → name ≡ name_from rcnm rcid → r ≡ lookup ws name → r ≡ place_named ws rcnm rcid
+  pub place_looked : (name : ℕ) (r : Option ℕ) → not b ≡ false → name ≡ name_from rcnm rcid → r ≡ lookup ws name → r ≡ place_named ws rcnm rcid
   unfolding place_named
   place_looked name r h e so = so ∙ rw (told_yes b (is_class rcnm) is h, e)

@@ -8,7 +8,7 @@ ghost use Rattle.shownames.specs.Premises.{is_class, place_named};
 
 use items::identity::rank_of;
 use items::word;
-use lookups::lookup::{Found, lookup};
+use lookups::lookup::lookup;
 
 // Whether a vector or a feature can have this RCNM. A name's word has the class by its rank, in which
 // any other class would pass for a feature's.
@@ -35,12 +35,12 @@ fn name_from(rcnm: u32, rcid: u32) -> u64
 }
 
 // The place of the record of this name, by the m words from word `from` on.
-pub fn place_named(work: &[u8], from: usize, m: usize, rcnm: u32, rcid: u32) -> Found
+pub fn place_named(work: &[u8], from: usize, m: usize, rcnm: u32, rcid: u32) -> Option<usize>
     requires { (8 * (from + m) ≤ length work.now) × Sorted (words_in work.now from m) }
     ensures { result ≡ place_named (words_in work.now from m) rcnm rcid }
 {
     if !is_class(rcnm) {
-        return Found::Nothing;
+        return None;
     }
     lookup(work, from, m, name_from(rcnm, rcid))
 }

@@ -6,11 +6,10 @@
 #![tactic(auto)]
 
 ghost use Rattle.std.specs.Prelude.{◌+◌, ◌≤◌, ◌≡◌, length};
-ghost use Rattle.iso8211.specs.Premises.{HeadOf};
 ghost use Rattle.items.specs.Premises.{LaidOut, Identified};
 ghost use Rattle.spans.specs.Spans.{span, span_with, Reached, FrontTold, LoneTold, SpanOf};
 
-use iso8211::field::{Field, Head, field_on, tag_of};
+use iso8211::field::{Field, Record};
 use octets::number::get1;
 use table::tags;
 
@@ -47,19 +46,19 @@ pub enum Front {
 }
 
 // The lengths of 0001, VRID, FRID and FOID are known, so that none is read.
-pub fn front_of(s: &[u8], at: usize, h: Head) -> Front
-    requires { LaidOut s.now at × HeadOf s.now at h × Identified s.now at }
-    ensures { FrontTold s.now at h result }
+pub fn front_of(r: &Record) -> Front
+    requires { LaidOut r.now.file.now r.now.at × Identified r.now.file.now r.now.at }
+    ensures { FrontTold r.now.file.now r.now.at r.now.head result }
 {
-    if tag_of(s, at, h, 0) != tags::FIRST {
+    if r.tag(0) != tags::FIRST {
         return Front::Other;
     }
-    let base = h.base;
-    let id = at + base + 3;
-    if get1(s, id) == 100 {
+    let base = r.head.base;
+    let id = r.at + base + 3;
+    if get1(r.file, id) == 100 {
         return Front::Feature(id, id + 22);
     }
-    if tag_of(s, at, h, 1) != tags::VRID {
+    if r.tag(1) != tags::VRID {
         return Front::Other;
     }
     Front::Vector(id, id + 9)
@@ -67,14 +66,14 @@ pub fn front_of(s: &[u8], at: usize, h: Head) -> Front
 
 // Whether field 2, which is due at `due`, is the last, and an SG2D of one pair with its 1E, as in most
 // nodes: then there is nothing to walk over.
-pub fn lone_pair(s: &[u8], at: usize, h: Head, due: usize) -> bool
-    requires { Reached s.now at h 2 due }
-    ensures { LoneTold s.now at due result }
+pub fn lone_pair(r: &Record, due: usize) -> bool
+    requires { Reached r.now.file.now r.now.at r.now.head 2 due }
+    ensures { LoneTold r.now.file.now r.now.at due result }
 {
-    if h.count != 3 {
+    if r.head.count != 3 {
         return false;
     }
-    let f = field_on(s, at, h, 2, due);
+    let f = r.field_on(2, due);
     if f.tag != tags::SG2D {
         return false;
     }
@@ -136,57 +135,36 @@ fn field_end(s: &[u8], f: Field) -> usize
 
 // The spans of the lists that have these three tags, in the fields from field `first` on, which
 // starts at `start`.
-pub fn spans_of(
-    s: &[u8],
-    at: usize,
-    h: Head,
-    first: usize,
-    start: usize,
-    a: u32,
-    b: u32,
-    c: u32,
-) -> Spans
-    requires { Reached s.now at h first start }
-    ensures { SpanOf s.now at a result.one × SpanOf s.now at b result.two × SpanOf s.now at c result.three }
+pub fn spans_of(r: &Record, first: usize, start: usize, a: u32, b: u32, c: u32) -> Spans
+    requires { Reached r.now.file.now r.now.at r.now.head first start }
+    ensures { SpanOf r.now.file.now r.now.at a result.one × SpanOf r.now.file.now r.now.at b result.two × SpanOf r.now.file.now r.now.at c result.three }
 {
-    let count = h.count;
+    let count = r.head.count;
     let mut sp = no_spans();
     let mut due = start;
-    let mut j = first;
-    while j < count {
-        let f = field_on(s, at, h, j, due);
-        j += 1;
-        sp = spans_with(s, sp, f, a, b, c);
-        due = field_end(s, f);
+    for j in first..count {
+        let f = r.field_on(j, due);
+        sp = spans_with(r.file, sp, f, a, b, c);
+        due = field_end(r.file, f);
     }
     sp
 }
 
 // The same of two lists, all that is asked of a feature: each walk then has one caller, into which the
 // compiler puts it.
-pub fn two_spans_of(
-    s: &[u8],
-    at: usize,
-    h: Head,
-    first: usize,
-    start: usize,
-    a: u32,
-    b: u32,
-) -> TwoSpans
-    requires { Reached s.now at h first start }
-    ensures { SpanOf s.now at a result.one × SpanOf s.now at b result.two }
+pub fn two_spans_of(r: &Record, first: usize, start: usize, a: u32, b: u32) -> TwoSpans
+    requires { Reached r.now.file.now r.now.at r.now.head first start }
+    ensures { SpanOf r.now.file.now r.now.at a result.one × SpanOf r.now.file.now r.now.at b result.two }
 {
-    let count = h.count;
+    let count = r.head.count;
     let mut one = Span { from: 0, to: 0 };
     let mut two = Span { from: 0, to: 0 };
     let mut due = start;
-    let mut j = first;
-    while j < count {
-        let f = field_on(s, at, h, j, due);
-        one = span_with(s, one, f, a);
-        two = span_with(s, two, f, b);
-        due = field_end(s, f);
-        j += 1;
+    for j in first..count {
+        let f = r.field_on(j, due);
+        one = span_with(r.file, one, f, a);
+        two = span_with(r.file, two, f, b);
+        due = field_end(r.file, f);
     }
     TwoSpans { one, two }
 }

@@ -7,6 +7,7 @@ use mathlib.Core.Path.{◌≡◌, refl, sym, ap, ◌∙◌}
 use native.Mathlib.Omega.{arith}
 use lib.ListN.{length, take, drop, length-append, length-drop, take-append-drop}
 use lib.Seq.{take_all, take-add, drop-append_seam}
+use Rattle.std.specs.Prelude.{Option, Some, None}
 use Rattle.octets.specs.Area.{Wrote}
 use Rattle.octets.proofs.AreaLaws.{wrote_join, wrote_as}
 use Rattle.octets.proofs.Tests.{told_no, told_yes}
@@ -22,7 +23,6 @@ use Rattle.edits.proofs.ControlLaws.{allowed_numbers}
 use Rattle.splice.specs.declared.control.Control.{Control}
 use Rattle.splice.specs.Given.{numbers_of, option_of}
 use Rattle.splice.specs.Put.{Two, ListPut}
-use Rattle.splice.proofs.ControlLaws.{given_none, given_some}
 use Rattle.splice.proofs.PutLaws.{put_no, put_yes}
 
 -- ---- three parts, one behind the other
@@ -79,37 +79,37 @@ edited_bytes {sh} {held} {brought} before out w v =
     ∙ rw (flatten_append new (drop (before + out) es), sym (place_front sh before held), place_rest sh (before + out) held w, v.is)
 
 -- ---- the verdict, from the two extents
-pub counts_told : (sh : Shape) (held brought : List ℕ) (c : Control) (all new : Extent) (may : Bool) → all ≡ extent_of sh held → new ≡ extent_of sh brought
-    → may ≡ list_allowed (option_of c) all.count new.count → may ≡ list_allowed (option_of c) (length (entries_of sh held)) (length (entries_of sh brought))
-counts_told sh held brought c all new may held_is brought_is told = told ∙ rw (held_is, brought_is)
+pub counts_told : (sh : Shape) (held brought : List ℕ) (o : Option Control) (all new : Extent) (may : Bool) → all ≡ extent_of sh held → new ≡ extent_of sh brought
+    → may ≡ list_allowed (option_of o) all.count new.count → may ≡ list_allowed (option_of o) (length (entries_of sh held)) (length (entries_of sh brought))
+counts_told sh held brought o all new may held_is brought_is told = told ∙ rw (held_is, brought_is)
 
-module _ {sh : Shape} {held brought : List ℕ} (two : Two sh held brought) (c : Control) where
-  pub edited_put : {a b : List ℕ} {at r : ℕ} (from to g : ℕ) → from ≡ place sh (c.index - 1) held → to ≡ place sh (c.index - 1 + g) held → g ≡ gone (numbers_of c)
+module _ {sh : Shape} {held brought : List ℕ} (two : Two sh held brought) where
+  pub edited_put : (c : Control) {a b : List ℕ} {at r : ℕ} (from to g : ℕ) → from ≡ place sh (c.index - 1) held → to ≡ place sh (c.index - 1 + g) held → g ≡ gone (numbers_of c)
       → Wrote a at (take from held ++ (brought ++ drop to held)) b r → Wrote a at (flatten (edited_by (numbers_of c) (entries_of sh held) (entries_of sh brought))) b r
   unfolding edited_by
-  edited_put from to g f t e w =
+  edited_put c from to g f t e w =
       wrote_as _ (rw (f, t, e) (sym (edited_bytes (c.index - 1) (gone (numbers_of c)) two.old two.new))) w
 
   -- ---- the three ways out
-  module _ (may : Bool) (verdict : may ≡ list_allowed (option_of c) (length (entries_of sh held)) (length (entries_of sh brought))) where
+  module _ (o : Option Control) (may : Bool) (verdict : may ≡ list_allowed (option_of o) (length (entries_of sh held)) (length (entries_of sh brought))) where
     pub spliced_no : (a : List ℕ) (at : ℕ) → not may ≡ true
-        → ListPut (list_allowed (option_of c) (length (entries_of sh held)) (length (entries_of sh brought)))
-        (flatten (list_edited (option_of c) (entries_of sh held) (entries_of sh brought))) a at a 0
+        → ListPut (list_allowed (option_of o) (length (entries_of sh held)) (length (entries_of sh brought)))
+        (flatten (list_edited (option_of o) (entries_of sh held) (entries_of sh brought))) a at a None
     spliced_no a at h = put_no _ a at (told_no may _ verdict h) refl
 
-    pub spliced_without : {a b : List ℕ} {at r : ℕ} → not may ≡ false → not c.there ≡ true → Wrote a at held b r
-        → ListPut (list_allowed (option_of c) (length (entries_of sh held)) (length (entries_of sh brought)))
-        (flatten (list_edited (option_of c) (entries_of sh held) (entries_of sh brought))) a at b r
-    unfolding list_edited
-    spliced_without h t w = put_yes (told_yes may _ verdict h) (wrote_as _ (rw (given_none c t) (sym two.old.is)) w)
+    pub spliced_without : {a b : List ℕ} {at r : ℕ} → not may ≡ false → o ≡ None → Wrote a at held b r
+        → ListPut (list_allowed (option_of o) (length (entries_of sh held)) (length (entries_of sh brought)))
+        (flatten (list_edited (option_of o) (entries_of sh held) (entries_of sh brought))) a at b (Some r)
+    unfolding option_of list_edited
+    spliced_without h is w = put_yes (told_yes may _ verdict h) (wrote_as _ (rw is (sym two.old.is)) w)
 
-    pub spliced_allowed : not may ≡ false → not c.there ≡ false → Allowed (numbers_of c) (length (entries_of sh held)) (length (entries_of sh brought))
-    unfolding list_allowed
-    spliced_allowed h t = allowed_numbers _ _ _ (rw (given_some c t) at (told_yes may _ verdict h))
+    module _ {c : Control} (is : o ≡ Some c) (h : not may ≡ false) where
+      pub spliced_allowed : Allowed (numbers_of c) (length (entries_of sh held)) (length (entries_of sh brought))
+      unfolding option_of list_allowed
+      spliced_allowed = allowed_numbers _ _ _ (rw is at (told_yes may _ verdict h))
 
-    pub spliced_with : {a b : List ℕ} {at r : ℕ} → not may ≡ false → not c.there ≡ false
-        → Wrote a at (flatten (edited_by (numbers_of c) (entries_of sh held) (entries_of sh brought))) b r
-        → ListPut (list_allowed (option_of c) (length (entries_of sh held)) (length (entries_of sh brought)))
-        (flatten (list_edited (option_of c) (entries_of sh held) (entries_of sh brought))) a at b r
-    unfolding list_edited
-    spliced_with h t w = put_yes (told_yes may _ verdict h) (wrote_as _ (rw (given_some c t)) w)
+      pub spliced_with : {a b : List ℕ} {at r : ℕ} → Wrote a at (flatten (edited_by (numbers_of c) (entries_of sh held) (entries_of sh brought))) b r
+          → ListPut (list_allowed (option_of o) (length (entries_of sh held)) (length (entries_of sh brought)))
+          (flatten (list_edited (option_of o) (entries_of sh held) (entries_of sh brought))) a at b (Some r)
+      unfolding option_of list_edited
+      spliced_with w = put_yes (told_yes may _ verdict h) (wrote_as _ (rw is) w)

@@ -5,7 +5,7 @@
 pub mod control;
 pub mod list;
 
-// The list edited by its control, written from `at` on: where it ends, or 0 where the control
+// The list edited by its control, written from `at` on: where it ends; none where the control
 // may not act.
 pub use list::put_spliced;
 

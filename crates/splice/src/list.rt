@@ -1,5 +1,5 @@
 // A list edited by its control.
-ghost use Rattle.std.specs.Prelude.{◌+◌, ◌-◌, ◌≤◌, ◌≡◌, length, take, drop};
+ghost use Rattle.std.specs.Prelude.{◌+◌, ◌-◌, ◌≤◌, ◌≡◌, length, take, drop, IfSome};
 ghost use mathlib.Core.List.{◌++◌, flatten};
 ghost use Rattle.octets.specs.Area.{Wrote};
 ghost use Rattle.entries.specs.Entries.{entries_of};
@@ -68,37 +68,36 @@ fn put_edited(
 }
 
 // Whether the control may act on the list.
-pub fn list_allowed(held: &[u8], brought: &[u8], sh: Shape, c: Control) -> bool
-    requires { Two sh held.now brought.now × Given c }
-    ensures { result ≡ list_allowed (option_of c) (length (entries_of sh held.now)) (length (entries_of sh brought.now)) }
+pub fn list_allowed(held: &[u8], brought: &[u8], sh: Shape, control: Option<Control>) -> bool
+    requires { Two sh held.now brought.now × IfSome control Given }
+    ensures { result ≡ list_allowed (option_of control) (length (entries_of sh held.now)) (length (entries_of sh brought.now)) }
 {
     let all = extent_of(held, sh);
     let new = extent_of(brought, sh);
     let m = all.count;
     let n = new.count;
-    is_allowed(c, m, n)
+    is_allowed(control, m, n)
 }
 
-// The list edited by its control, written from `at` on: where it ends, or 0 where the control may
-// not act.
+// The list edited by its control, written from `at` on: where it ends; none where the control may not
+// act.
 pub fn put_spliced(
     held: &[u8],
     brought: &[u8],
     sh: Shape,
-    c: Control,
+    control: Option<Control>,
     out: &mut [u8],
     at: usize,
-) -> usize
-    requires { Two sh held.now brought.now × Given c × (at + (length held.now + length brought.now) ≤ length out.old) }
-    ensures { ListPut (list_allowed (option_of c) (length (entries_of sh held.now)) (length (entries_of sh brought.now)))
-        (flatten (list_edited (option_of c) (entries_of sh held.now) (entries_of sh brought.now))) out.old at out.new result }
+) -> Option<usize>
+    requires { Two sh held.now brought.now × IfSome control Given × (at + (length held.now + length brought.now) ≤ length out.old) }
+    ensures { ListPut (list_allowed (option_of control) (length (entries_of sh held.now)) (length (entries_of sh brought.now)))
+        (flatten (list_edited (option_of control) (entries_of sh held.now) (entries_of sh brought.now))) out.old at out.new result }
 {
-    if !list_allowed(held, brought, sh, c) {
-        return 0;
+    if !list_allowed(held, brought, sh, control) {
+        return None;
     }
-    let there = c.there;
-    if !there {
-        return copy(held, out, at);
+    match control {
+        Some(c) => Some(put_edited(held, brought, sh, c, out, at)),
+        None => Some(copy(held, out, at)),
     }
-    put_edited(held, brought, sh, c, out, at)
 }

@@ -8,6 +8,7 @@ use native.Mathlib.Omega.{arith}
 use lib.ListN.{length, get_or, take, drop}
 use lib.Dec.{eqb}
 use borrow.Author.Tests.{eq-eqb, ne_eqb, eqb-true, lt-ltb, le-ltb}
+use Rattle.std.specs.Prelude.{Option, Some, None}
 use Rattle.octets.specs.Lists.{is_in}
 use Rattle.octets.proofs.Cases.{le_or_lt, eq_or_ne}
 use Rattle.table.specs.Table.{VRPT}
@@ -24,8 +25,6 @@ use Rattle.names.specs.NameWords.{items_at}
 use Rattle.lookups.specs.LookupWords.{index_from, index_of}
 use Rattle.names.specs.Premises.{Stands, AllStand}
 use Rattle.names.specs.Held.{place_from, place_in, object_in}
-use Rattle.lookups.specs.declared.lookup.Found.{Found}
-use Rattle.lookups.specs.declared.lookup.Found.TheVariants.{At, Nothing}
 use Rattle.names.proofs.HeldLaws.{stand_first, stand_rest, stand_rank, stand_name, last_feature}
 use Rattle.pointer.specs.Premises.{held_foid}
 use Rattle.ring.specs.Walk.{ends_with, node_at}
@@ -168,11 +167,11 @@ nodes_word begin (suc k) (worded_more {w = w} {ws = ws} one all) order =
     (nodes_features (cond begin 1 2) (suc k) (worded_more one all) (features_all order h) ∙ half_none begin))
     (λ (h : w < feature_word). rw (first_below w ws h) rest) (le_or_lt feature_word w)
 
-nodes_found : (begin : Bool) (x : Found) {is : List Item} {ws : List ℕ} → AllWorded is ws → Sorted ws
+nodes_found : (begin : Bool) (x : Option ℕ) {is : List Item} {ws : List ℕ} → AllWorded is ws → Sorted ws
     → found (nodes_of (cond begin 1 2) is) x ≡ half begin (found (take (first_from feature_word ws) (notes_for is)) x)
 unfolding found
-nodes_found begin (At k) all order = nodes_word begin k all order
-nodes_found begin Nothing all order = half_none begin
+nodes_found begin (Some k) all order = nodes_word begin k all order
+nodes_found begin None all order = half_none begin
 
 -- ---- the same of a work area that is prepared
 module _ {is : List Item} {ws : List ℕ} {m : ℕ} {work : List ℕ} {v : ℕ} (all : AllWorded is ws) (order : Sorted ws) (so : Prepared (notes_for is) ws m work v) where

@@ -1,8 +1,8 @@
 -- Laws of what is seen of items while the notes are put. Assumes nothing.
 use Prim.Native.Nat.{ℕ, zero, suc, ◌+◌, ◌-◌, ◌*◌, ◌≤◌, ◌<◌}
-use mathlib.Core.Bool.{Bool, true, false, not}
+use mathlib.Core.Bool.{Bool, true, false}
 use mathlib.Core.List.{List}
-use mathlib.Core.Logic.{⊎_elim, inl, inr}
+use mathlib.Core.Logic.{⊎_elim}
 use mathlib.Core.Path.{◌≡◌, refl, sym, ap, ◌∙◌}
 use native.Mathlib.Nat.{zero-add}
 use native.Mathlib.Numerals.{add-one}
@@ -100,13 +100,6 @@ unfolding item_code first_by
 faultless_code comf ws object node i faultless = rw (faultless.shape, faultless.pointer object, faultless.ring node)
 
 -- ---- how many are clear
-pub clear_same : (clear i : ℕ) (good : Bool) → ClearWith clear i good clear
-clear_same clear i good = record { is = inl refl }
-
-pub clear_more : (clear i : ℕ) (good : Bool) → not good ≡ false → clear ≡ i → ClearWith clear i good (i + 1)
-clear_more clear i true good here = record { is = inr (refl, here, refl) }
-clear_more clear i false good here = never (sym good)
-
 -- the words stay while notes are put, and are as many as ever
 pub filed_names : {s a : List ℕ} {m i : ℕ} {b : List ℕ} → Filed s a m i b → 16 * m ≤ length a → Sorted (words_in a 0 m) → NamesIn b m
 filed_names {s} {a} {m} {i} {b} filed room order = record {

@@ -3,13 +3,14 @@ use Prim.Native.Nat.{ℕ, suc, ◌+◌, ◌-◌, ◌*◌, ◌≤◌, ◌<◌}
 use mathlib.Core.Bool.{Bool, true, false, cond}
 use mathlib.Core.List.{List, [], ◌∷◌, map}
 use mathlib.Core.Logic.{⊎_elim}
-use mathlib.Core.Path.{◌≡◌, refl, sym, ◌∙◌}
+use mathlib.Core.Path.{◌≡◌, refl, sym, ap, ◌∙◌}
 use native.Mathlib.Nat.{zero-add, sub-zero}
 use native.Mathlib.Numerals.{add-one}
 use native.Mathlib.Omega.{arith}
 use lib.ListN.{length, get_or}
 use lib.Dec.{eqb}
 use borrow.Author.Tests.{ne_eqb}
+use Rattle.std.specs.Prelude.{Option, Result, Ok, Err}
 use Rattle.octets.specs.Number.{byte_at}
 use Rattle.octets.proofs.Cases.{eq_or_ne, true_or_false}
 use Rattle.table.specs.Table.{FFPT, FSPT}
@@ -28,7 +29,6 @@ use Rattle.names.specs.NameWords.{name_words, items_at}
 use Rattle.names.proofs.HeldLaws.{all_stand}
 use Rattle.names.proofs.ItemsLaws.{held_items_lem, held_places}
 use Rattle.names.proofs.ReadableLaws.{readable_few, readable_three}
-use Rattle.lookups.specs.declared.lookup.Found.{Found}
 use Rattle.vectorshape.specs.Shape.{shape_code}
 use Rattle.pointer.specs.Pointer.{lnams_code, pointer_code}
 use Rattle.answers.specs.First.{first_code, first_by}
@@ -38,7 +38,8 @@ use Rattle.topology.specs.Topology.{item_code, code_among, fault_from, topology_
 use Rattle.topology.specs.Notes.{notes_for, noted_code, Roomy, Prepared, word_fault}
 use Rattle.topology.proofs.ReachLaws.{code_noted, items_worded}
 use Rattle.layout.specs.General.{comf_at}
-use Rattle.answers.specs.Answer.{refusal}
+use Rattle.answers.specs.Answer.{refusal, outcome}
+use Rattle.answers.proofs.OutcomeLaws.{fine_told, some_told}
 use Rattle.answers.specs.declared.refusal.Refusal.{Refusal}
 
 -- ---- one item: a is its code of Shape
@@ -57,7 +58,7 @@ codes_join : (a b c : ℕ) → first_code (first_code a b) c ≡ first_code a (f
 unfolding first_by
 codes_join a b c = ⊎_elim (λ (h : a ≡ 0). rw h) (λ (ne : a ≡ 0 → ⊥). rw (ne_eqb a 0 ne, ne_eqb a 0 ne)) (eq_or_ne a 0)
 
-module _ (comf : ℕ) (place : ℕ → Found) (object : ℕ → Bool) (node : ℕ → ℕ → ℕ) (s : List ℕ) (at a : ℕ) (shape : a ≡ shape_code comf (item_at s at)) where
+module _ (comf : ℕ) (place : ℕ → Option ℕ) (object : ℕ → Bool) (node : ℕ → ℕ → ℕ) (s : List ℕ) (at a : ℕ) (shape : a ≡ shape_code comf (item_at s at)) where
   pub item_shape : (a ≡ 0 → ⊥) → a ≡ item_code comf place object node (item_at s at)
   unfolding item_code first_by
   item_shape ne = rw (← shape, ne_eqb a 0 ne)
@@ -104,8 +105,8 @@ module _ (code : Item → ℕ) (s work : List ℕ) (m i : ℕ) (more : i < m) (w
   fault_turn = let e : m - i ≡ suc (m - suc i) = omega arith in rw (e, ← is, ← place)
 
   module _ (all : Refusal) (so : all ≡ word_fault code s (3 + i) (words_in work i (m - i))) (c : ℕ) (told : c ≡ code (item_at s at)) where
-    pub fault_found : (r : Refusal) → (c ≡ 0 → ⊥) → r ≡ refusal c (3 + i) at → r ≡ all
-    fault_found r ne e = e ∙ sym (so ∙ fault_turn ∙ rw (← told, ne_eqb c 0 ne))
+    pub fault_found : (r : Refusal) → (c ≡ 0 → ⊥) → r ≡ refusal c (3 + i) at → Err r ≡ outcome all
+    fault_found r ne e = some_told (e ∙ sym (so ∙ fault_turn ∙ rw (← told, ne_eqb c 0 ne))) (λ z. ne (sym (ap (λ (q : Refusal). q.code) e) ∙ z))
 
     pub fault_on : c ≡ 0 → all ≡ word_fault code s (3 + (i + 1)) (words_in work (i + 1) (m - (i + 1)))
     fault_on e =
@@ -124,10 +125,10 @@ module _ (code : Item → ℕ) (s work : List ℕ) (m i : ℕ) (more : i < m) (w
   pub turn_known : AllStand s (words_in work 0 m) → Identified s at
   turn_known all = rw place (stands all).known
 
-pub fault_done : (code : Item → ℕ) (s work : List ℕ) (m i : ℕ) (all r : Refusal) → m ≤ i → all ≡ word_fault code s (3 + i) (words_in work i (m - i))
-    → r ≡ refusal 0 0 0 → r ≡ all
+pub fault_done : (code : Item → ℕ) (s work : List ℕ) (m i : ℕ) (all : Refusal) → m ≤ i → all ≡ word_fault code s (3 + i) (words_in work i (m - i))
+    → Ok tt ≡ outcome all
 unfolding word_fault words_in
-fault_done code s work m i all r high so e = let z : m - i ≡ 0 = omega arith in e ∙ sym (so ∙ rw z)
+fault_done code s work m i all high so = let z : m - i ≡ 0 = omega arith in fine_told all (ap (λ (q : Refusal). q.code) so ∙ rw z refl)
 
 -- ---- the byte of an item's record: a fault of the items from item k on is at k or behind it
 fault_later : (code : Item → ℕ) (k : ℕ) (is : List Item) → eqb (fault_from code k is).code 0 ≡ false → k ≤ (fault_from code k is).index
@@ -180,14 +181,15 @@ module _ {s : List ℕ} {n : ℕ} {work : List ℕ} (readable : Readable false s
     pub held_stays : HeldIn s n next
     held_stays = record { words = rw (← is) (so.words ∙ rw (← is) at held.words) }
 
-    pub held_fault : ((i : ℕ) → byte_at s i < 256) → (comf : ℕ) (r : Refusal) → comf ≡ comf_at s
-        → r ≡ word_fault (noted_code comf next m v) s 3 (words_in next 0 m) → r ≡ topology_fault s n
+    pub held_fault : ((i : ℕ) → byte_at s i < 256) → (comf : ℕ) {r : Result Unit Refusal} → comf ≡ comf_at s
+        → r ≡ outcome (word_fault (noted_code comf next m v) s 3 (words_in next 0 m)) → r ≡ outcome (topology_fault s n)
     unfolding topology_fault topology_of
-    held_fault bytes comf r factor e =
+    held_fault bytes comf factor e =
         let code = code_noted (items_worded (words_in work 0 m) (record { low = bytes }) (rw is held_stand)) (held_order_lem m is) so comf in
         let ws = sorted (name_words false s n) in
         let three = readable_three readable in
         e
-        ∙ rw (← code, so.words, is, held.words, factor)
+        ∙ ap outcome
+        (rw (← code, so.words, is, held.words, factor)
         (word_located (code_among (comf_at s) (items_at s ws)) s 3 ws
-        ∙ rw (held_items_lem s n readable.framed readable.short three, held_places s n readable.framed readable.short three))
+        ∙ rw (held_items_lem s n readable.framed readable.short three, held_places s n readable.framed readable.short three)))

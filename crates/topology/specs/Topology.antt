@@ -1,8 +1,7 @@
 -- Topology: the verdict on all items, in held order. Assumes nothing.
-use Rattle.std.specs.Prelude.{ℕ, ◌+◌, ◌-◌, Bool, cond, List, [], ◌∷◌, get_or, eqb}
+use Rattle.std.specs.Prelude.{ℕ, ◌+◌, ◌-◌, Bool, cond, List, [], ◌∷◌, get_or, eqb, Option}
 use Rattle.items.specs.Item.{Item}
 use Rattle.names.specs.Held.{place_in, object_in, held_items, held_offsets}
-use Rattle.lookups.specs.declared.lookup.Found.{Found}
 use Rattle.vectorshape.specs.Shape.{shape_code}
 use Rattle.pointer.specs.Pointer.{pointer_code}
 use Rattle.answers.specs.First.{first_code}
@@ -12,7 +11,7 @@ use Rattle.answers.specs.Answer.{refusal, fine}
 use Rattle.answers.specs.declared.refusal.Refusal.{Refusal}
 
 -- "17 to 19 record by record", within one item in this order
-unfoldable pub item_code : ℕ → (ℕ → Found) → (ℕ → Bool) → (ℕ → ℕ → ℕ) → Item → ℕ
+unfoldable pub item_code : ℕ → (ℕ → Option ℕ) → (ℕ → Bool) → (ℕ → ℕ → ℕ) → Item → ℕ
 item_code comf place object node i = first_code (shape_code comf i) (first_code (pointer_code place object i) (ring_code node i))
 
 -- of an item among all

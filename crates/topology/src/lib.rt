@@ -8,6 +8,7 @@ ghost use Rattle.std.specs.Prelude.{◌-◌, ◌*◌, ◌≤◌, false, ◌≡�
 ghost use Rattle.headvalues.specs.Dspm.{most_comf};
 ghost use Rattle.words.specs.Words.{words_in};
 ghost use Rattle.items.specs.Item.{item_at};
+ghost use Rattle.answers.specs.Answer.{outcome};
 ghost use Rattle.topology.specs.Topology.{topology_fault};
 ghost use Rattle.topology.specs.Notes.{noted_code, word_fault, ClearTo};
 ghost use Rattle.items.specs.Premises.{LaidOut, Identified};
@@ -16,7 +17,7 @@ ghost use Rattle.layout.specs.Premises.{DspmThere};
 
 use answers::Refusal;
 use answers::refusal::refuse;
-use iso8211::field::head_of;
+use iso8211::field::{Record, head_of};
 use items::identity::{prim_of, rcnm_of};
 use items::word;
 use layout::general::comf_of;
@@ -49,21 +50,26 @@ fn judged_code(s: &[u8], at: usize, comf: u32, work: &[u8], m: usize, v: usize) 
     ensures { result ≡ noted_code comf work.now m v (item_at s.now at) }
 {
     let h = head_of(s, at);
-    let shape = shape_code(s, at, h, comf);
+    let r = Record {
+        file: s,
+        at,
+        head: h,
+    };
+    let shape = shape_code(&r, comf);
     if shape != 0 {
         return shape;
     }
-    if rcnm_of(s, at, h) != 100 {
-        return pointer_code(s, at, h, work, m, v);
+    if rcnm_of(&r) != 100 {
+        return pointer_code(&r, work, m, v);
     }
-    if prim_of(s, at, h) != 3 {
-        return pointer_code(s, at, h, work, m, v);
+    if prim_of(&r) != 3 {
+        return pointer_code(&r, work, m, v);
     }
-    let related = lnams_code(s, at, h, work, m, v);
+    let related = lnams_code(&r, work, m, v);
     if related != 0 {
         return related;
     }
-    area_code(s, at, h, work, m, v)
+    area_code(&r, work, m, v)
 }
 
 // The same, without asking the rules one by one where the item is seen to have no fault.
@@ -86,28 +92,33 @@ pub fn item_code(
 }
 
 // The first of m items that has a code; the first `clear` of them have none.
-fn items_fault(s: &[u8], comf: u32, work: &[u8], m: usize, v: usize, clear: usize) -> Refusal
+fn items_fault(
+    s: &[u8],
+    comf: u32,
+    work: &[u8],
+    m: usize,
+    v: usize,
+    clear: usize,
+) -> Result<(), Refusal>
     requires { AllStand s.now (words_in work.now 0 m) × Noted work.now m v × (comf ≤ most_comf) × (m ≤ 5242880) × ClearTo comf s.now (words_in work.now 0 m) clear }
-    ensures { result ≡ word_fault (noted_code comf work.now m v) s.now 3 (words_in work.now 0 m) }
+    ensures { result ≡ outcome (word_fault (noted_code comf work.now m v) s.now 3 (words_in work.now 0 m)) }
 {
     let starts = starts_of(work, m);
-    let mut i = clear;
-    while i < m {
+    for i in clear..m {
         let at = (get(work, i) % word::NAME_WEIGHT) as usize;
         let code = item_code(s, at, comf, work, m, v, starts);
         if code != 0 {
-            return refuse(code, 3 + i, at);
+            return Err(refuse(code, 3 + i, at));
         }
-        i += 1;
     }
-    refuse(0, 0, 0)
+    Ok(())
 }
 
 // The topology of a cell of n records that is readable, whose words in held order stand in the work
 // area, and stay there.
-pub fn topology_fault(s: &[u8], n: usize, work: &mut [u8]) -> Refusal
+pub fn topology_fault(s: &[u8], n: usize, work: &mut [u8]) -> Result<(), Refusal>
     requires { Readable false s.now n × DspmThere s.now × HeldIn s.now n work.old × (16 * n ≤ length work.old) }
-    ensures value { result ≡ topology_fault s.now n }
+    ensures value { result ≡ outcome (topology_fault s.now n) }
     ensures held_in { HeldIn s.now n work.new }
 {
     let m = n - 3;

@@ -16,7 +16,7 @@ ghost use Rattle.topology.specs.Notes.{note_for, notes_for, Ranked, Roomy, Besid
 ghost use Rattle.names.specs.NameWords.{items_at};
 
 use crate::seen::{clear_with, seen_of};
-use iso8211::field::head_of;
+use iso8211::field::{Record, head_of};
 use items::identity::foid_of;
 use items::word;
 use lookups::starts::starts_of;
@@ -31,7 +31,12 @@ fn ends_note(s: &[u8], at: usize) -> u64
     ensures { result ≡ ends_with (entries_at s.now at VRPT) }
 {
     let h = head_of(s, at);
-    ends_of(s, at, h)
+    let r = Record {
+        file: s,
+        at,
+        head: h,
+    };
+    ends_of(&r)
 }
 
 // The FOID that stands behind the FRID at `id`, which has twelve bytes and its 1E.
@@ -48,8 +53,13 @@ fn foid_note(s: &[u8], at: usize) -> u64
     ensures { result ≡ foid_at s.now at }
 {
     let h = head_of(s, at);
-    let Front::Feature(id, _due) = front_of(s, at, h) else {
-        return foid_of(s, at, h);
+    let r = Record {
+        file: s,
+        at,
+        head: h,
+    };
+    let Front::Feature(id, _due) = front_of(&r) else {
+        return foid_of(&r);
     };
     foid_behind(s, id)
 }
@@ -76,12 +86,10 @@ fn put_notes(s: &[u8], work: &mut [u8], m: usize, comf: u32, nodes: usize) -> us
         × ClearTo comf s.now (words_in work.old 0 m) result }
 {
     let mut clear: usize = 0;
-    let mut i: usize = 0;
-    while i < m {
+    for i in 0..m {
         let seen = seen_of(s, get(work, i), comf, work, m, nodes);
         put(work, m + i, seen.note);
         clear = clear_with(clear, i, seen.clear);
-        i += 1;
     }
     clear
 }

@@ -8,7 +8,7 @@ ghost use Rattle.names.specs.Premises.{Noted};
 ghost use Rattle.quickvectors.specs.Quick.{Quick};
 
 use crate::seen::seen_at;
-use iso8211::field::head_of;
+use iso8211::field::{Record, head_of};
 use items::identity::{rank_of, rcnm_of};
 use lookups::starts::Starts;
 use quickfeatures::feature_quick;
@@ -29,10 +29,15 @@ pub fn is_faultless(
     ensures { Quick comf work.now m v (item_at s.now at) result }
 {
     let h = head_of(s, at);
-    let Front::Feature(id, due) = front_of(s, at, h) else {
-        let rank = rank_of(rcnm_of(s, at, h));
+    let r = Record {
+        file: s,
+        at,
+        head: h,
+    };
+    let Front::Feature(id, due) = front_of(&r) else {
+        let rank = rank_of(rcnm_of(&r));
         let seen = seen_at(s, at, rank, comf, work, m, starts.connected);
         return seen.clear;
     };
-    feature_quick(s, at, h, id, due, work, m, v, starts)
+    feature_quick(&r, id, due, work, m, v, starts)
 }

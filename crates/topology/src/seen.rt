@@ -11,14 +11,13 @@ ghost use Rattle.items.specs.Lists.{entries_at};
 ghost use Rattle.items.specs.Premises.{LaidOut};
 ghost use Rattle.items.specs.Word.{word_offset};
 ghost use Rattle.names.specs.Premises.{Stands};
-ghost use Rattle.iso8211.specs.Premises.{HeadOf};
 ghost use Rattle.ring.specs.Walk.{ends_with};
 ghost use Rattle.spans.specs.Spans.{Reached, SpanOf};
 ghost use Rattle.quickvectors.specs.Quick.{NamesIn};
 ghost use Rattle.topology.specs.Notes.{note_for, Ranked, AloneTold, SeenTold, ClearWith};
 
 use crate::note::note_at;
-use iso8211::field::{Head, head_of};
+use iso8211::field::{Record, head_of};
 use items::word;
 use quickvectors::{pair_lying, vector_lying};
 use ring::ends::{ends_between, ends_of};
@@ -34,50 +33,48 @@ pub struct Seen {
 
 // The ends of the edge at `at`, whose pointers lie in this span: where they stand in one field, by these
 // two alone.
-fn ends_lying(s: &[u8], at: usize, h: Head, ends: Span) -> u64
-    requires { LaidOut s.now at × HeadOf s.now at h × SpanOf s.now at 1448235092 ends }
-    ensures { result ≡ ends_with (entries_at s.now at VRPT) }
+fn ends_lying(r: &Record, ends: Span) -> u64
+    requires { LaidOut r.now.file.now r.now.at × SpanOf r.now.file.now r.now.at 1448235092 ends }
+    ensures { result ≡ ends_with (entries_at r.now.file.now r.now.at VRPT) }
 {
     let from = ends.from;
     let to = ends.to;
     if to < from {
-        return ends_of(s, at, h);
+        return ends_of(r);
     }
     if to - from != 18 {
-        return ends_of(s, at, h);
+        return ends_of(r);
     }
     let mid = from + sizes::VRPT;
-    ends_between(&s[from..mid], &s[mid..to])
+    ends_between(&r.file[from..mid], &r.file[mid..to])
 }
 
 // The note of the vector at `at`, whose pointers lie in this span.
-fn vector_note(s: &[u8], at: usize, h: Head, rank: u64, ends: Span) -> u64
-    requires { Ranked s.now at rank × (rank ≡ 3 → ⊥) × HeadOf s.now at h × SpanOf s.now at 1448235092 ends }
-    ensures { result ≡ note_for (item_at s.now at) }
+fn vector_note(r: &Record, rank: u64, ends: Span) -> u64
+    requires { Ranked r.now.file.now r.now.at rank × (rank ≡ 3 → ⊥) × SpanOf r.now.file.now r.now.at 1448235092 ends }
+    ensures { result ≡ note_for (item_at r.now.file.now r.now.at) }
 {
     if rank != 2 {
         return 0;
     }
-    ends_lying(s, at, h, ends)
+    ends_lying(r, ends)
 }
 
 // Whether the vector at `at` is a node whose lists hold one pair, and field 2, which is due at `due`, is it.
-fn node_alone(s: &[u8], at: usize, h: Head, rank: u64, due: usize) -> bool
-    requires { Ranked s.now at rank × (rank ≡ 3 → ⊥) × Reached s.now at h 2 due }
-    ensures { AloneTold s.now at rank due result }
+fn node_alone(r: &Record, rank: u64, due: usize) -> bool
+    requires { Ranked r.now.file.now r.now.at rank × (rank ≡ 3 → ⊥) × Reached r.now.file.now r.now.at r.now.head 2 due }
+    ensures { AloneTold r.now.file.now r.now.at rank due result }
 {
     if rank == 2 {
         return false;
     }
-    lone_pair(s, at, h, due)
+    lone_pair(r, due)
 }
 
 // A vector whose lists are found by a walk: its identifier field starts at `id`, and field 2 is due at
 // `due`.
 fn lists_seen(
-    s: &[u8],
-    at: usize,
-    h: Head,
+    r: &Record,
     rank: u64,
     id: usize,
     due: usize,
@@ -86,13 +83,14 @@ fn lists_seen(
     m: usize,
     nodes: usize,
 ) -> Seen
-    requires { Ranked s.now at rank × (rank ≡ 3 → ⊥) × (id ≡ id_at s.now at) × Reached s.now at h 2 due × NamesIn work.now m × (comf ≤ most_comf) }
-    ensures { SeenTold comf (words_in work.now 0 m) (item_at s.now at) result }
+    requires { Ranked r.now.file.now r.now.at rank × (rank ≡ 3 → ⊥) × (id ≡ id_at r.now.file.now r.now.at)
+        × Reached r.now.file.now r.now.at r.now.head 2 due × NamesIn work.now m × (comf ≤ most_comf) }
+    ensures { SeenTold comf (words_in work.now 0 m) (item_at r.now.file.now r.now.at) result }
 {
-    let sp = spans_of(s, at, h, 2, due, tags::VRPT, tags::SG2D, tags::SG3D);
+    let sp = spans_of(r, 2, due, tags::VRPT, tags::SG2D, tags::SG3D);
     Seen {
-        note: vector_note(s, at, h, rank, sp.one),
-        clear: vector_lying(s, at, id, sp, comf, work, m, nodes),
+        note: vector_note(r, rank, sp.one),
+        clear: vector_lying(r.file, r.at, id, sp, comf, work, m, nodes),
     }
 }
 
@@ -111,19 +109,24 @@ fn vector_seen(
     ensures { SeenTold comf (words_in work.now 0 m) (item_at s.now at) result }
 {
     let h = head_of(s, at);
-    let Front::Vector(id, due) = front_of(s, at, h) else {
+    let r = Record {
+        file: s,
+        at,
+        head: h,
+    };
+    let Front::Vector(id, due) = front_of(&r) else {
         return Seen {
             note: note_at(s, at, rank),
             clear: false,
         };
     };
-    if node_alone(s, at, h, rank, due) {
+    if node_alone(&r, rank, due) {
         return Seen {
             note: 0,
             clear: pair_lying(s, at, due, comf),
         };
     }
-    lists_seen(s, at, h, rank, id, due, comf, work, m, nodes)
+    lists_seen(&r, rank, id, due, comf, work, m, nodes)
 }
 
 // The item at `at`, whose class has this rank. Features are judged when all notes stand.
@@ -162,11 +165,5 @@ pub fn clear_with(clear: usize, i: usize, good: bool) -> usize
     requires { i < 18446744073709551615 }
     ensures { ClearWith clear i good result }
 {
-    if !good {
-        return clear;
-    }
-    if clear != i {
-        return clear;
-    }
-    i + 1
+    if good && clear == i { i + 1 } else { clear }
 }

@@ -1,24 +1,20 @@
-// Faults, and which of two comes first.
-ghost use Rattle.std.specs.Prelude.{◌<◌, ◌≡◌};
-ghost use Rattle.values.specs.Fault.{fault_at, first};
+// Faults: where the first wrong subfield of a field begins.
+ghost use Rattle.std.specs.Prelude.{◌≡◌};
+ghost use Rattle.values.specs.Fault.{fault_at, told};
 
-// 0 where the rule of the subfield that begins at `at` holds, else one more than `at`.
-pub fn fault_at(at: usize, good: bool) -> usize
-    requires { at < 9223372036854775808 }
-    ensures { result ≡ fault_at at good }
-{
-    if good {
-        return 0;
-    }
-    at + 1
+// The byte at which the first wrong subfield begins, or of a layout the first wrong field: of what was judged, a field
+// or a file.
+#[derive(Clone, Copy)]
+pub struct Fault {
+    pub at: usize,
 }
 
-// The fault of the subfields before, or, where there is none, of those after.
-pub fn first(before: usize, after: usize) -> usize
-    ensures { result ≡ first before after }
+// Ok where the rule of the subfield that begins at `at` holds, else the fault there.
+pub fn holds(rule: bool, at: usize) -> Result<(), Fault>
+    ensures { result ≡ told (fault_at at rule) }
 {
-    if before == 0 {
-        return after;
+    if rule {
+        return Ok(());
     }
-    before
+    Err(Fault { at })
 }

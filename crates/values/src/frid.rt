@@ -1,9 +1,10 @@
 // FRID: the identifier of a feature record.
 ghost use Rattle.std.specs.Prelude.{◌≡◌, length};
+ghost use Rattle.values.specs.Fault.{told};
 ghost use Rattle.values.specs.Frid.{prim_good, frid_fault};
 
 use crate::class::objl_good;
-use crate::fault::{fault_at, first};
+use crate::fault::{Fault, holds};
 use crate::rule::{rcid_good, ruin_good, rver_good};
 use octets::number::get2;
 use table::offsets;
@@ -25,18 +26,14 @@ fn prim_good(prim: u8) -> bool
 }
 
 // The fault of a FRID.
-pub fn frid_fault(f: &[u8], update: bool) -> usize
+pub fn frid_fault(f: &[u8], update: bool) -> Result<(), Fault>
     requires { length f.now ≡ 12 }
-    ensures { result ≡ frid_fault update f.now }
+    ensures { result ≡ told (frid_fault update f.now) }
 {
-    let rcnm = fault_at(0, f[0] == 100);
-    let rcid = fault_at(offsets::RCID, rcid_good(f, offsets::RCID));
-    let prim = fault_at(offsets::FRID_PRIM, prim_good(f[offsets::FRID_PRIM]));
-    let objl = fault_at(offsets::FRID_OBJL, objl_good(get2(f, offsets::FRID_OBJL)));
-    let rver = fault_at(offsets::FRID_RVER, rver_good(f, offsets::FRID_RVER));
-    let ruin = fault_at(offsets::FRID_RUIN, ruin_good(f[offsets::FRID_RUIN], update));
-    first(
-        rcnm,
-        first(rcid, first(prim, first(objl, first(rver, ruin)))),
-    )
+    holds(f[0] == 100, 0)?;
+    holds(rcid_good(f, offsets::RCID), offsets::RCID)?;
+    holds(prim_good(f[offsets::FRID_PRIM]), offsets::FRID_PRIM)?;
+    holds(objl_good(get2(f, offsets::FRID_OBJL)), offsets::FRID_OBJL)?;
+    holds(rver_good(f, offsets::FRID_RVER), offsets::FRID_RVER)?;
+    holds(ruin_good(f[offsets::FRID_RUIN], update), offsets::FRID_RUIN)
 }

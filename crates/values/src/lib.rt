@@ -1,7 +1,7 @@
 // Document 01's rules under "Values" for VRID and FRID (`vrid_fault`, `frid_fault`), each on one lent field
-// without its closing 1E, whose subfields were found to fill it, and the rule of one number. A fault is 0
-// where every rule holds, else one more than the place of the first byte of the first subfield that is
-// wrong. The header's fields have crates of their own. Below it stands `octets`.
+// without its closing 1E, whose subfields were found to fill it, and the rule of one number. A `Fault` names
+// the first byte of the first subfield that is wrong. The header's fields have crates of their own. Below it
+// stands `octets`.
 #![tactic(auto)]
 
 pub mod class;
@@ -12,11 +12,11 @@ pub mod vrid;
 
 pub use class::{is_collection, is_geo, is_meta};
 
-// 0 where the rule of the subfield that begins at `at` holds, else one more than `at`.
-pub use fault::fault_at;
+// The byte at which the first wrong subfield begins.
+pub use fault::Fault;
 
-// The fault of the subfields before, or, where there is none, of those after.
-pub use fault::first;
+// Ok where the rule of the subfield that begins at `at` holds, else the fault there.
+pub use fault::holds;
 
 // The fault of a FRID.
 pub use frid::frid_fault;

@@ -1,8 +1,9 @@
 // VRID: the identifier of a vector record.
 ghost use Rattle.std.specs.Prelude.{◌≡◌, length};
+ghost use Rattle.values.specs.Fault.{told};
 ghost use Rattle.values.specs.Vrid.{is_vector, vrid_fault};
 
-use crate::fault::{fault_at, first};
+use crate::fault::{Fault, holds};
 use crate::rule::{rcid_good, ruin_good, rver_good};
 use table::offsets;
 
@@ -20,13 +21,12 @@ pub fn is_vector(rcnm: u8) -> bool
 }
 
 // The fault of a VRID.
-pub fn vrid_fault(f: &[u8], update: bool) -> usize
+pub fn vrid_fault(f: &[u8], update: bool) -> Result<(), Fault>
     requires { length f.now ≡ 8 }
-    ensures { result ≡ vrid_fault update f.now }
+    ensures { result ≡ told (vrid_fault update f.now) }
 {
-    let rcnm = fault_at(0, is_vector(f[0]));
-    let rcid = fault_at(offsets::RCID, rcid_good(f, offsets::RCID));
-    let rver = fault_at(offsets::VRID_RVER, rver_good(f, offsets::VRID_RVER));
-    let ruin = fault_at(offsets::VRID_RUIN, ruin_good(f[offsets::VRID_RUIN], update));
-    first(rcnm, first(rcid, first(rver, ruin)))
+    holds(is_vector(f[0]), 0)?;
+    holds(rcid_good(f, offsets::RCID), offsets::RCID)?;
+    holds(rver_good(f, offsets::VRID_RVER), offsets::VRID_RVER)?;
+    holds(ruin_good(f[offsets::VRID_RUIN], update), offsets::VRID_RUIN)
 }

@@ -4,9 +4,10 @@ use mathlib.Core.Bool.{Bool, true, false, not, cond, ◌&&◌, ◌||◌}
 use mathlib.Core.List.{List}
 use mathlib.Core.Path.{◌≡◌, refl, sym, ap, ◌∙◌}
 use native.Mathlib.Omega.{arith}
-use lib.ListN.{length, take, drop, length-take, length-drop}
+use lib.ListN.{length, take, drop}
 use lib.Dec.{eqb, leb}
 use borrow.Author.Tests.{eq-eqb, ne_eqb, lt-leb, le-leb}
+use Rattle.std.specs.Prelude.{Option, Some}
 use Rattle.octets.specs.Number.{byte_at, num_at}
 use Rattle.octets.proofs.Tests.{chain, then_same, else_same, told_no, told_yes}
 use Rattle.entries.specs.Rules.{all_of, through}
@@ -18,8 +19,6 @@ use Rattle.items.specs.Premises.{Identified, Featured}
 use Rattle.items.specs.Identity.{rcnm_at, prim_at, objl_at}
 use Rattle.items.specs.Item.{Item, item_at}
 use Rattle.items.specs.declared.cursor.Cursor.{Cursor}
-use Rattle.items.specs.declared.cursor.Next.{Next}
-use Rattle.items.specs.declared.cursor.Next.TheVariants.{Entry}
 use Rattle.items.proofs.ItemLaws.{vrpt_said, sg2d_said, sg3d_said, fspt_said, feature_said}
 use Rattle.items.proofs.CursorLaws.{begin_left, next_left, through_on}
 use Rattle.vectorshape.specs.Shape.{magnitude, pair_good, isolated_good, add_topi, spatial_good, spatial_count, feature_good, shape_good, shape_code}
@@ -57,16 +56,12 @@ module _ (comf : ℕ) (e : List ℕ) (u m : ℕ) (y : u ≡ num_at e 0 4) (far :
       let next : magnitude (num_at e 4 4) ≡ n = sym (farther ∙ ap magnitude x) in
       rw (is, next, le-leb m (90 * comf) h)
 
--- ---- an entry of n bytes as it is lent of a part has eight at least
-pub stride_long : (b : List ℕ) (at n : ℕ) → 8 ≤ n → n ≤ length b - at → 8 ≤ length (take (at + n - at) (drop at b))
-stride_long b at n some more = rw (length-take, length-drop) (omega arith)
-
 -- ---- turns of the sum of TOPI, which stays small as the list has two entries
 pub topi_start : (s : List ℕ) (at : ℕ) (c : Cursor) → c ≡ record { field = 0; from = 0; to = 0 } → length (entries_at s at VRPT) ≡ 2
     → 0 + 255 * length (left s at VRPT c) ≤ 510
 topi_start s at c e two = omega (arith, ap length (begin_left s at VRPT c e))
 
-module _ (s : List ℕ) (at : ℕ) (c : Cursor) (r : Next) (stepped : Stepped s at VRPT c r) (from to : ℕ) (next : Cursor) (is : r ≡ Entry from to next)
+module _ (s : List ℕ) (at : ℕ) (c : Cursor) (r : Option (ℕ × ℕ × Cursor)) (stepped : Stepped s at VRPT c r) (from to : ℕ) (next : Cursor) (is : r ≡ Some (from, to, next))
     (sum t : ℕ) (told : t ≡ byte_at (take (to - from) (drop from s)) 7) where
   pub topi_few : t < 256 → sum + 255 * length (left s at VRPT c) ≤ 510 → sum + t + 255 * length (left s at VRPT next) ≤ 510
   topi_few byte few = omega (arith, ap length (next_left s at VRPT c r stepped from to next is))

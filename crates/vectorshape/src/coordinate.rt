@@ -4,14 +4,12 @@ ghost use Rattle.headvalues.specs.Dspm.{most_comf};
 ghost use Rattle.entries.specs.Entries.{entries_of};
 ghost use Rattle.entries.specs.Rules.{all_of};
 ghost use Rattle.table.specs.Table.{row_of};
-ghost use Rattle.iso8211.specs.Premises.{HeadOf};
 ghost use Rattle.items.specs.Lists.{entries_at};
 ghost use Rattle.items.specs.Item.{item_at};
 ghost use Rattle.vectorshape.specs.Shape.{magnitude, pair_good, coordinates_good};
 ghost use Rattle.items.specs.Premises.{LaidOut, Listed};
 
-use iso8211::field::Head;
-use items::Part;
+use iso8211::field::Record;
 use items::cursor::begin;
 use items::step::part;
 use octets::number::get4;
@@ -21,11 +19,7 @@ use table::{kinds, offsets, sizes};
 fn magnitude_of(u: u32) -> u64
     ensures { result ≡ magnitude u }
 {
-    let wide = u as u64;
-    if wide < 2147483648 {
-        return wide;
-    }
-    4294967296 - wide
+    u64::from(u.cast_signed().unsigned_abs())
 }
 
 // Whether Y and X of a pair or a sounding are within their limits.
@@ -47,41 +41,31 @@ fn part_pairs(part: &[u8], size: usize, comf: u32) -> bool
     requires { (8 ≤ size) × (comf ≤ most_comf) }
     ensures { result ≡ all_of (pair_good comf) (entries_of (record { fixed = size; unit = 0 }) part.now) }
 {
-    let mut at: usize = 0;
-    while size <= part.len() - at {
-        let end = at + size;
-        if !pair_good(&part[at..end], comf) {
-            return false;
-        }
-        at = end;
-    }
-    true
+    part.chunks_exact(size).all(|e| pair_good(e, comf))
 }
 
 // Whether those of the list of kind k, pairs or soundings of `size` bytes, all are.
-fn pairs_good(s: &[u8], at: usize, h: Head, k: usize, size: usize, comf: u32) -> bool
-    requires { Listed s.now at h k × ((row_of k).fixed ≡ size) × ((row_of k).text ≡ false) × (8 ≤ size) × (comf ≤ most_comf) }
-    ensures { result ≡ all_of (pair_good comf) (entries_at s.now at k) }
+fn pairs_good(r: &Record, k: usize, size: usize, comf: u32) -> bool
+    requires { Listed r.now.file.now r.now.at r.now.head k × ((row_of k).fixed ≡ size) × ((row_of k).text ≡ false) × (8 ≤ size) × (comf ≤ most_comf) }
+    ensures { result ≡ all_of (pair_good comf) (entries_at r.now.file.now r.now.at k) }
 {
     let mut c = begin();
-    loop {
-        let Part::Bytes(from, to, after) = part(s, at, h, k, c) else {
-            return true;
-        };
-        if !part_pairs(&s[from..to], size, comf) {
+    while let Some((from, to, after)) = part(r, k, c) {
+        if !part_pairs(&r.file[from..to], size, comf) {
             return false;
         }
         c = after;
     }
+    true
 }
 
 // Whether all coordinates of the record are.
-pub fn coordinates_good(s: &[u8], at: usize, h: Head, comf: u32) -> bool
-    requires { LaidOut s.now at × HeadOf s.now at h × (comf ≤ most_comf) }
-    ensures { result ≡ coordinates_good comf (item_at s.now at) }
+pub fn coordinates_good(r: &Record, comf: u32) -> bool
+    requires { LaidOut r.now.file.now r.now.at × (comf ≤ most_comf) }
+    ensures { result ≡ coordinates_good comf (item_at r.now.file.now r.now.at) }
 {
-    if !pairs_good(s, at, h, kinds::SG2D, sizes::SG2D, comf) {
+    if !pairs_good(r, kinds::SG2D, sizes::SG2D, comf) {
         return false;
     }
-    pairs_good(s, at, h, kinds::SG3D, sizes::SG3D, comf)
+    pairs_good(r, kinds::SG3D, sizes::SG3D, comf)
 }

@@ -1,12 +1,11 @@
 // All items of a cell, in the order of their words: how long their records are, and their bytes.
-ghost use Rattle.std.specs.Prelude.{◌+◌, ◌≤◌, ◌<◌, ◌&&◌, ◌≡◌, length};
+ghost use Rattle.std.specs.Prelude.{◌+◌, ◌≤◌, ◌<◌, ◌≡◌, length};
 ghost use Rattle.octets.specs.Area.{Wrote};
 ghost use Rattle.words.specs.Words.{words_in};
 ghost use Rattle.writing.specs.All.{Words, AllSame, AllMeasured, written_from};
 
 use crate::item::{known_size, put_copy, put_item};
 use items::word;
-use records::head::larger;
 use words::get;
 
 // How many bytes the records have together, and the longest of them.
@@ -23,16 +22,6 @@ pub struct Measured {
     pub same: bool,
 }
 
-// Whether both hold.
-fn both(a: bool, b: bool) -> bool
-    ensures { result ≡ (a && b) }
-{
-    if !a {
-        return false;
-    }
-    b
-}
-
 // The sizes of the records of the items of m words: for the limits of the held form, and for the
 // room that `put_items` and `put_copies` ask for.
 pub fn measure(s: &[u8], m: usize, work: &[u8]) -> Measured
@@ -42,15 +31,13 @@ pub fn measure(s: &[u8], m: usize, work: &[u8]) -> Measured
     let mut sum: usize = 0;
     let mut most: u32 = 0;
     let mut same = true;
-    let mut k: usize = 0;
-    while k < m {
+    for k in 0..m {
         let w = get(work, k);
         let one = known_size(s, (w % word::NAME_WEIGHT) as usize);
         let size = one.size;
         sum += size as usize;
-        most = larger(most, size);
-        same = both(same, one.same);
-        k += 1;
+        most = most.max(size);
+        same &= one.same;
     }
     let sizes = Sizes { sum, most };
     Measured { sizes, same }
@@ -63,8 +50,7 @@ pub fn put_items(s: &[u8], m: usize, work: &[u8], out: &mut [u8], place: usize) 
     ensures { Wrote out.old place (written_from 3 s.now (words_in work.now 0 m)) out.new result }
 {
     let mut next = place;
-    let mut k: usize = 0;
-    while k < m {
+    for k in 0..m {
         let w = get(work, k);
         next = put_item(
             s,
@@ -73,7 +59,6 @@ pub fn put_items(s: &[u8], m: usize, work: &[u8], out: &mut [u8], place: usize) 
             next,
             (k + 3) as u32,
         );
-        k += 1;
     }
     next
 }
@@ -84,8 +69,7 @@ pub fn put_copies(s: &[u8], m: usize, work: &[u8], out: &mut [u8], place: usize)
     ensures { Wrote out.old place (written_from 3 s.now (words_in work.now 0 m)) out.new result }
 {
     let mut next = place;
-    let mut k: usize = 0;
-    while k < m {
+    for k in 0..m {
         let w = get(work, k);
         next = put_copy(
             s,
@@ -94,7 +78,6 @@ pub fn put_copies(s: &[u8], m: usize, work: &[u8], out: &mut [u8], place: usize)
             next,
             (k + 3) as u32,
         );
-        k += 1;
     }
     next
 }

@@ -15,7 +15,7 @@ use crate::joined::{put_joined, size_joined};
 use asheld::front::is_front;
 use asheld::size::held_size;
 use asheld::write::{put_held, put_same};
-use iso8211::field::{Head, head_of};
+use iso8211::field::{Head, Record, head_of};
 use itemrows::lead::put_lead;
 use itemrows::plain::{body_of, is_plain, rows_of};
 use records::head::{base_of, put_head};
@@ -28,16 +28,22 @@ pub struct Known {
     pub same: bool,
 }
 
-// How long the record of any item is.
+// How long the record of any item is. It takes file, place and head apart: that a file's bytes are below 256
+// is known to a proof where the file itself is lent.
 fn size_any(s: &[u8], at: usize, h: Head) -> u32
     requires { Writable s.now at × HeadOf s.now at h }
     ensures { ItemSized s.now at result }
 {
-    if !is_plain(s, at, h) {
+    let r = Record {
+        file: s,
+        at,
+        head: h,
+    };
+    if !is_plain(&r) {
         return size_joined(s, at, h);
     }
     let n = h.count;
-    let rows = rows_of(s, at, h);
+    let rows = rows_of(&r);
     base_of(rows, n) + body_of(rows, n)
 }
 
@@ -46,10 +52,14 @@ pub fn size_of(s: &[u8], at: usize) -> u32
     requires { Writable s.now at }
     ensures { ItemSized s.now at result }
 {
-    let h = head_of(s, at);
-    let size = held_size(s, at, h);
+    let r = Record {
+        file: s,
+        at,
+        head: head_of(s, at),
+    };
+    let size = held_size(&r);
     if size == 0 {
-        return size_any(s, at, h);
+        return size_any(s, at, r.head);
     }
     size
 }
@@ -59,11 +69,15 @@ pub fn known_size(s: &[u8], at: usize) -> Known
     requires { Writable s.now at }
     ensures { ItemKnown s.now at result }
 {
-    let h = head_of(s, at);
-    let size = held_size(s, at, h);
+    let r = Record {
+        file: s,
+        at,
+        head: head_of(s, at),
+    };
+    let size = held_size(&r);
     if size == 0 {
         return Known {
-            size: size_any(s, at, h),
+            size: size_any(s, at, r.head),
             same: false,
         };
     }
@@ -73,16 +87,21 @@ pub fn known_size(s: &[u8], at: usize) -> Known
     }
 }
 
-// The record of any item.
+// The record of any item, as `size_any` takes it.
 fn put_any(s: &[u8], at: usize, h: Head, out: &mut [u8], place: usize, number: u32) -> usize
     requires { Writable s.now at × HeadOf s.now at h × (place + size_of (item_pieces number (item_at s.now at)) ≤ length out.old) }
     ensures { Wrote out.old place (record_bytes (item_pieces number (item_at s.now at))) out.new result }
 {
-    if !is_plain(s, at, h) {
+    let r = Record {
+        file: s,
+        at,
+        head: h,
+    };
+    if !is_plain(&r) {
         return put_joined(s, at, h, out, place, number);
     }
     let n = h.count;
-    let rows = rows_of(s, at, h);
+    let rows = rows_of(&r);
     let body = body_of(rows, n);
     let a = put_head(out, place, rows, n, body);
     put_lead(s, at + h.base + 3, body as usize - 3, out, a, number)
@@ -101,14 +120,18 @@ pub fn put_item(s: &[u8], at: usize, out: &mut [u8], place: usize, number: u32) 
     requires { Writable s.now at × (place + size_of (item_pieces number (item_at s.now at)) ≤ length out.old) }
     ensures { Wrote out.old place (record_bytes (item_pieces number (item_at s.now at))) out.new result }
 {
-    let h = head_of(s, at);
-    let size = held_size(s, at, h);
+    let r = Record {
+        file: s,
+        at,
+        head: head_of(s, at),
+    };
+    let size = held_size(&r);
     if size == 0 {
-        return put_any(s, at, h, out, place, number);
+        return put_any(s, at, r.head, out, place, number);
     }
     if is_front(s, at, size) {
         return put_copy(s, at, out, place, number);
     }
-    let base = h.base;
+    let base = r.head.base;
     put_held(s, at, base, size, out, place, number)
 }

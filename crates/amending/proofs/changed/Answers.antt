@@ -13,8 +13,8 @@ header_at-requires c = update_headed c.requires
 pub returns-then-code-ne0 : goal.returns-then-code-ne0
 returns-then-code-ne0 c = record {
   value = changed_refused _ _ _ _ _ _ (c.follow_code-code.ensures _) _ _ _ c.if-code-ne0.true
-      c.header_at.ensures.0 c.refuse.ensures c.filed.ensures;
-  out_after = area_kept _ _ _ (refused_kept _ _ _ _ _ c.if-code-ne0.true c.refuse.ensures c.filed.ensures);
+      c.header_at.ensures.0 c.refuse.ensures c.of_refusal.ensures;
+  out_after = area_kept _ _ _ (refused_kept _ _ _ _ _ c.if-code-ne0.true c.refuse.ensures c.of_refusal.ensures);
 }
 
 pub amended_apart-requires : goal.amended_apart-requires

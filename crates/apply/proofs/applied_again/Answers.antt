@@ -5,10 +5,10 @@ use Rattle.std.proofs.Common.{rules}
 use Rattle.apply.proofs.applied_again.Goals as goal
 
 pub update_opened-requires : goal.update_opened-requires
-update_opened-requires c = told_count 1 _ _ _ c.opened-front.ensures (search rules)
+update_opened-requires c = told_count 1 _ _ _ c.opened.ensures (search rules)
 
-pub returns-in-Refused : goal.returns-in-Refused
-returns-in-Refused c = record {
-  value = first_refused _ _ _ c.opened-front.ensures _ (search rules) _ _;
-  out_after = first_kept _ _ _ c.opened-front.ensures c.in-Refused.a (search rules) _ _;
+pub returns-in-Err : goal.returns-in-Err
+returns-in-Err c = record {
+  value = first_refused _ _ _ c.opened.ensures _ (search rules) _ _;
+  out_after = first_kept _ _ _ c.opened.ensures c.in-Err.a (search rules) _ _;
 }

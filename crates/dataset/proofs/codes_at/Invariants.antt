@@ -1,10 +1,7 @@
 -- The invariant: all are so exactly where all from here on are.
-use Rattle.std.proofs.Common.{◌≤◌, ◌+◌, ◌-◌, ◌≡◌}
+use Rattle.std.proofs.Common.{◌+◌, ◌-◌, ◌≡◌}
 use Rattle.dataset.specs.Dsid.{codes_at}
 use Rattle.dataset.proofs.codes_at.Given as goal
 
 abbrev pub invariant-loop-k : goal.invariant-loop-k
-invariant-loop-k l = (l.k ≤ l.n) × (codes_at l.n l.f l.at ≡ codes_at (l.n - l.k) l.f (l.at + l.k))
-
-abbrev pub decreases-loop-k : goal.decreases-loop-k
-decreases-loop-k l = l.n - l.k
+invariant-loop-k l = codes_at l.n l.f l.at ≡ codes_at (l.n - l.k) l.f (l.at + l.k)

@@ -6,6 +6,6 @@ pub returns-then-update : goal.returns-then-update
 unfolding extension_good
 returns-then-update c = cc
 
-pub returns : goal.returns
+pub returns-else-update : goal.returns-else-update
 unfolding extension_good
-returns c = cc
+returns-else-update c = cc

@@ -1,16 +1,9 @@
--- By the ranges of bytes, one law each.
-use Rattle.std.proofs.Common.{rules}
-use Rattle.dataset.proofs.DsidLaws.{code_low, code_digit, code_between, code_letter}
+-- A letter or a digit, as the definition has it.
+use Rattle.dataset.proofs.DsidLaws.{code_letter, code_other}
 use Rattle.dataset.proofs.is_code.Goals as goal
 
-pub returns-then-b-lt48 : goal.returns-then-b-lt48
-returns-then-b-lt48 c = search (rules, code_low)
+pub returns-then-is_ascii_uppercase : goal.returns-then-is_ascii_uppercase
+returns-then-is_ascii_uppercase c = code_letter _ _ c.is_ascii_uppercase.ensures.value c.if-is_ascii_uppercase.true
 
-pub returns-then-b-le57 : goal.returns-then-b-le57
-returns-then-b-le57 c = search (rules, code_digit)
-
-pub returns-then-b-lt65 : goal.returns-then-b-lt65
-returns-then-b-lt65 c = search (rules, code_between)
-
-pub returns : goal.returns
-returns c = search (rules, code_letter)
+pub returns-else-is_ascii_uppercase : goal.returns-else-is_ascii_uppercase
+returns-else-is_ascii_uppercase c = code_other _ _ c.is_ascii_uppercase.ensures.value c.if-is_ascii_uppercase.false _ c.is_ascii_digit.ensures.value

@@ -15,7 +15,7 @@ returns-then-one-ne-FIRST c = (search (rules, one_other), search rules)
 pub describes_at-requires : goal.describes_at-requires
 describes_at-requires c = field_room _ 1 _ _ c.requires
     c.head_of-head.ensures.count c.if-head-lt2.false
-    c.field_at-one.ensures
+    c.field-one.ensures
 
 pub returns-then-not-describes_at : goal.returns-then-not-describes_at
 returns-then-not-describes_at c = (search (rules, one_wrong), search rules)

@@ -7,6 +7,3 @@ use Rattle.described.proofs.rest.Given as goal
 
 abbrev pub invariant-loop-j : goal.invariant-loop-j
 invariant-loop-j l = (length l.marks ≡ kind_count) × (described_from (count_at l.s 0 - 2) l.s 2 none ≡ described_from (count_at l.s 0 - l.j) l.s l.j l.marks)
-
-abbrev pub decreases-loop-j : goal.decreases-loop-j
-decreases-loop-j l = l.count - l.j

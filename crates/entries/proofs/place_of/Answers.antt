@@ -3,10 +3,10 @@ use Rattle.std.proofs.Common.{rules}
 use Rattle.entries.proofs.place_of.Goals as goal
 
 pub returns-then-n-eq0 : goal.returns-then-n-eq0
-returns-then-n-eq0 c = search (rules, place_out)
+returns-then-n-eq0 c = (search (rules, place_out), search rules)
 
-pub loop-left-preserved : goal.loop-left-preserved
-loop-left-preserved c = (search rules, search (rules, place_on))
+pub loop-preserved : goal.loop-preserved
+loop-preserved c = (search rules, search (rules, place_on))
 
-pub returns : goal.returns
-returns c = search (rules, place_there)
+pub returns-after-loop : goal.returns-after-loop
+returns-after-loop c = (search (rules, place_there), search rules)

@@ -1,10 +1,7 @@
 -- The invariant: the place is as far from here as the entries that are left to pass.
-use Rattle.std.proofs.Common.{◌≤◌, ◌+◌, ◌≡◌, length, drop}
+use Rattle.std.proofs.Common.{◌≤◌, ◌+◌, ◌-◌, ◌≡◌, length, drop}
 use Rattle.entries.specs.Premises.{place}
 use Rattle.entries.proofs.place_of.Given as goal
 
-abbrev pub invariant-loop-left : goal.invariant-loop-left
-invariant-loop-left l = (l.at ≤ length l.b) × (place l.sh l.k l.b ≡ l.at + place l.sh l.left (drop l.at l.b))
-
-abbrev pub decreases-loop-left : goal.decreases-loop-left
-decreases-loop-left l = l.left
+abbrev pub invariant-loop : goal.invariant-loop
+invariant-loop l = (l.at ≤ length l.b) × (place l.sh l.k l.b ≡ l.at + place l.sh (l.k - l.counter) (drop l.at l.b))

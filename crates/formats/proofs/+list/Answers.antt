@@ -8,8 +8,8 @@ returns-then-levels-eq0 t c = search (rules, list_none)
 pub returns-then-byte-ne40 : goal.returns-then-byte-ne40
 returns-then-byte-ne40 t c = search (rules, list_shut)
 
-pub loop-turn-init : goal.loop-turn-init
-loop-turn-init t c = (search rules, search (rules, list_start))
+pub loop-init : goal.loop-init
+loop-init t c = search (rules, list_start)
 
 pub list-inner-requires : goal.list-inner-requires
 list-inner-requires t c = (omega arith, tt)
@@ -30,15 +30,15 @@ returns-then-mark-eq41 t c = search (rules, turn_closed)
 pub returns-then-mark-ne44 : goal.returns-then-mark-ne44
 returns-then-mark-ne44 t c = search (rules, turn_open)
 
-pub overflow_add-from-in-loop-turn : goal.overflow_add-from-in-loop-turn
-overflow_add-from-in-loop-turn t c = omega (
+pub overflow_add-from-in-loop : goal.overflow_add-from-in-loop
+overflow_add-from-in-loop t c = omega (
   arith,
   c.byte-mark.ensures.inside,
   c.well_formed.0.0,
 )
 
-pub loop-turn-preserved : goal.loop-turn-preserved
-loop-turn-preserved t c = (search rules, search (rules, turn_further))
+pub loop-preserved : goal.loop-preserved
+loop-preserved t c = search (rules, turn_further)
 
 pub returns : goal.returns
 returns t c = search (rules, list_over)

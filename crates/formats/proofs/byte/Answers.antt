@@ -3,5 +3,5 @@ use Rattle.formats.proofs.FormatsLaws.{seen_past}
 use Rattle.std.proofs.Common.{rules}
 use Rattle.formats.proofs.byte.Goals as goal
 
-pub returns : goal.returns
-returns c = search (rules, seen_past)
+pub returns-else-at-s : goal.returns-else-at-s
+returns-else-at-s c = search (rules, seen_past)

@@ -6,5 +6,5 @@ use Rattle.formats.proofs.count.Goals as goal
 pub returns-then-digit-gt9 : goal.returns-then-digit-gt9
 returns-then-digit-gt9 c = search (rules, count_absent)
 
-pub returns : goal.returns
-returns c = search (rules, count_told)
+pub returns-else-digit-gt9 : goal.returns-else-digit-gt9
+returns-else-digit-gt9 c = search (rules, count_told)

@@ -3,10 +3,10 @@ use Rattle.octets.proofs.Tests.{tests}
 use Rattle.formats.specs.Formats.{counts}
 use Rattle.formats.proofs.counting.Goals as goal
 
-pub returns-then-d-lt1 : goal.returns-then-d-lt1
+pub returns-then-d-ge1 : goal.returns-then-d-ge1
 unfolding counts
-returns-then-d-lt1 c = search tests
+returns-then-d-ge1 c = search tests
 
-pub returns : goal.returns
+pub returns-else-d-ge1 : goal.returns-else-d-ge1
 unfolding counts
-returns c = search tests
+returns-else-d-ge1 c = search tests

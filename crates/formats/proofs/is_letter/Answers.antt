@@ -1,20 +1,21 @@
--- Each return is one test of the definition.
-use Rattle.octets.proofs.Tests.{tests}
+-- Each letter is one test of the definition.
+use Rattle.std.proofs.Common.{arith}
+use Rattle.std.proofs.lemmas.Bool.Decides.{nat_tests}
 use Rattle.formats.specs.Formats.{is_letter}
 use Rattle.formats.proofs.is_letter.Goals as goal
 
-pub returns-then-b-eq65 : goal.returns-then-b-eq65
+pub returns-in_default : goal.returns-in_default
 unfolding is_letter
-returns-then-b-eq65 c = search tests
+returns-in_default c = grind (arith, nat_tests)
 
-pub returns-then-b-eq73 : goal.returns-then-b-eq73
+pub returns-in_default-2 : goal.returns-in_default-2
 unfolding is_letter
-returns-then-b-eq73 c = search tests
+returns-in_default-2 c = grind (arith, nat_tests)
 
-pub returns-then-b-eq82 : goal.returns-then-b-eq82
+pub returns-in-65 : goal.returns-in-65
 unfolding is_letter
-returns-then-b-eq82 c = search tests
+returns-in-65 c = grind (arith, nat_tests)
 
-pub returns : goal.returns
+pub returns-in-65-2 : goal.returns-in-65-2
 unfolding is_letter
-returns c = search tests
+returns-in-65-2 c = grind (arith, nat_tests)

@@ -6,5 +6,5 @@ use Rattle.formats.proofs.item.Goals as goal
 pub returns-then-byte-eq40 : goal.returns-then-byte-eq40
 returns-then-byte-eq40 c = search (rules, item_list)
 
-pub returns : goal.returns
-returns c = search (rules, item_alone)
+pub returns-else-byte-eq40 : goal.returns-else-byte-eq40
+returns-else-byte-eq40 c = search (rules, item_alone)

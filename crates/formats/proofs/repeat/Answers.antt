@@ -2,14 +2,14 @@ use Rattle.formats.proofs.FormatsLaws.{repeating_start, repeating_room, repeatin
 use Rattle.std.proofs.Common.{rules}
 use Rattle.formats.proofs.repeat.Goals as goal
 
-pub loop-k-init : goal.loop-k-init
-loop-k-init c = (search rules, search (rules, repeating_start))
+pub loop-init : goal.loop-init
+loop-init c = search (rules, repeating_start)
 
 pub add-all-requires : goal.add-all-requires
 add-all-requires c = (search rules, search rules, search (rules, repeating_room))
 
-pub loop-k-preserved : goal.loop-k-preserved
-loop-k-preserved c = (search rules, search (rules, repeating_next))
+pub loop-preserved : goal.loop-preserved
+loop-preserved c = search (rules, repeating_next)
 
 pub returns : goal.returns
 returns c = search (rules, repeating_all)

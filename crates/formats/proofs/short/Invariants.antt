@@ -4,7 +4,4 @@ use Rattle.formats.specs.Formats.{short_from, short_at}
 use Rattle.formats.proofs.short.Given as goal
 
 abbrev pub invariant-loop-n : goal.invariant-loop-n
-invariant-loop-n l = (l.n ≤ 3) × (l.at + l.n ≤ length l.s) × (l.led < 10 ^ l.n) × (short_at l.s l.at ≡ short_from (3 - l.n) l.s (l.at + l.n) l.led)
-
-abbrev pub decreases-loop-n : goal.decreases-loop-n
-decreases-loop-n l = 3 - l.n
+invariant-loop-n l = (l.at + l.n ≤ length l.s) × (l.led < 10 ^ l.n) × (short_at l.s l.at ≡ short_from (3 - l.n) l.s (l.at + l.n) l.led)

@@ -10,8 +10,9 @@ use Rattle.pointer.proofs.lnams_code.Given as goal
 
 abbrev pub invariant-loop-from : goal.invariant-loop-from
 invariant-loop-from l =
-    CursorIn l.s l.at FFPT l.c
-    × (lnams_code (held_foid (words_in l.work (l.m + l.v) (l.m - l.v))) (entries_at l.s l.at FFPT) ≡ lnams_code (held_foid (words_in l.work (l.m + l.v) (l.m - l.v))) (left l.s l.at FFPT l.c))
+    CursorIn l.r.file.now l.r.at FFPT l.c
+    × (lnams_code (held_foid (words_in l.work (l.m + l.v) (l.m - l.v))) (entries_at l.r.file.now l.r.at FFPT)
+    ≡ lnams_code (held_foid (words_in l.work (l.m + l.v) (l.m - l.v))) (left l.r.file.now l.r.at FFPT l.c))
 
 abbrev pub decreases-loop-from : goal.decreases-loop-from
-decreases-loop-from l = length (left l.s l.at FFPT l.c)
+decreases-loop-from l = length (left l.r.file.now l.r.at FFPT l.c)

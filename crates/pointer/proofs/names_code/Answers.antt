@@ -6,9 +6,6 @@ use Rattle.pointer.proofs.names_code.Goals as goal
 pub loop-from-init : goal.loop-from-init
 loop-from-init c = (search (rules, begin_in), search (rules, names_begin))
 
-pub returns-in_default : goal.returns-in_default
-returns-in_default c = search (rules, names_done)
-
 pub slice_bounds-name_in-count : goal.slice_bounds-name_in-count
 slice_bounds-name_in-count c = search (rules, next_up)
 
@@ -29,3 +26,6 @@ loop-from-smaller c = search (rules, next_less)
 
 pub loop-from-preserved : goal.loop-from-preserved
 loop-from-preserved c = (search (rules, next_in), search (rules, names_on))
+
+pub returns : goal.returns
+returns c = search (rules, names_done)

@@ -9,7 +9,8 @@ use Rattle.pointer.proofs.names_code.Given as goal
 
 abbrev pub invariant-loop-from : goal.invariant-loop-from
 invariant-loop-from l =
-    CursorIn l.s l.at l.k l.c × (names_code (index_of (words_in l.work 0 l.m)) (entries_at l.s l.at l.k) ≡ names_code (index_of (words_in l.work 0 l.m)) (left l.s l.at l.k l.c))
+    CursorIn l.r.file.now l.r.at l.k l.c × (names_code (index_of (words_in l.work 0 l.m)) (entries_at l.r.file.now l.r.at l.k)
+    ≡ names_code (index_of (words_in l.work 0 l.m)) (left l.r.file.now l.r.at l.k l.c))
 
 abbrev pub decreases-loop-from : goal.decreases-loop-from
-decreases-loop-from l = length (left l.s l.at l.k l.c)
+decreases-loop-from l = length (left l.r.file.now l.r.at l.k l.c)

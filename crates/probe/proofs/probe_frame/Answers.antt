@@ -4,16 +4,16 @@ use Rattle.probe.proofs.VerdictLaws.{even_few, even, odd_few, odd}
 use Rattle.probe.proofs.probe_frame.Goals as goal
 
 pub overflow_mul-result : goal.overflow_mul-result
-overflow_mul-result c = let few : c.in-Records.n ≤ length c.args.file.now = search (rules, even_few) in omega arith
+overflow_mul-result c = let few : c.in-Ok.n ≤ length c.args.file.now = search (rules, even_few) in omega arith
 
-pub overflow_mul-result-in-Broken : goal.overflow_mul-result-in-Broken
-overflow_mul-result-in-Broken c = let few : c.in-Broken.k ≤ length c.args.file.now = search (rules, odd_few) in omega arith
+pub overflow_mul-result-in-Err : goal.overflow_mul-result-in-Err
+overflow_mul-result-in-Err c = let few : c.in-Err.k ≤ length c.args.file.now = search (rules, odd_few) in omega arith
 
 pub overflow_add-result : goal.overflow_add-result
-overflow_add-result c = let few : c.in-Broken.k ≤ length c.args.file.now = search (rules, odd_few) in omega arith
+overflow_add-result c = let few : c.in-Err.k ≤ length c.args.file.now = search (rules, odd_few) in omega arith
 
-pub returns-in-Records : goal.returns-in-Records
-returns-in-Records c = search (rules, even)
+pub returns-in-Ok : goal.returns-in-Ok
+returns-in-Ok c = search (rules, even)
 
-pub returns-in-Broken : goal.returns-in-Broken
-returns-in-Broken c = search (rules, odd)
+pub returns-in-Err : goal.returns-in-Err
+returns-in-Err c = search (rules, odd)

@@ -4,7 +4,7 @@ use Rattle.std.proofs.Common.{rules}
 use Rattle.result.proofs.put_notes.Goals as goal
 
 pub loop-i-init : goal.loop-i-init
-loop-i-init c = (search rules, search (rules, walked_start), search (rules, clearing_start), search rules, search rules, search rules, search rules, search rules)
+loop-i-init c = (search (rules, walked_start), search (rules, clearing_start), search rules)
 
 pub item_at-a-requires : goal.item_at-a-requires
 item_at-a-requires c = (search (rules, walked_woof), search rules, search rules)
@@ -17,16 +17,11 @@ loop-i-preserved c =
     let put = c.put_note-good.ensures.0 in
     let head = c.item_at-a.ensures in
     let inv = c.loop-i.invariant in
-    let walked = inv.1 in
-    let clearing = inv.2 in
+    let walked = inv.0 in
+    let clearing = inv.1 in
     let laid = c.requires.0 in (
-      search rules,
       walked_on walked laid (search rules) head put,
       clearing_on walked laid clearing (search rules) head put _ c.clear_with-clear.ensures,
-      search rules,
-      search rules,
-      search rules,
-      search rules,
       search rules,
     )
 

@@ -11,7 +11,7 @@ returns c =
     let laid = c.requires.0 in
     let beside = c.prepare-ready.ensures.1 in record {
       value = result_topology laid beside
-          c.prepare-ready.ensures.0 _ _ c.items_fault.ensures.0;
+          c.prepare-ready.ensures.0 _ c.items_fault.ensures.0;
       edits_unchanged = result_places laid beside;
       rooms = search rules;
     }

@@ -1,4 +1,4 @@
-use Rattle.std.proofs.Common.{false, rules}
+use Rattle.std.proofs.Common.{rules}
 use Rattle.items.proofs.CursorLaws.{begin_in, next_up, next_within, next_bytes, next_less, next_in}
 use Rattle.items.proofs.KindLaws.{fspt_fixed}
 use Rattle.ring.proofs.RingLaws.{rings_begin, rings_end, first_missing, ring_begin, ring_misused, ring_closed, ring_open, next_missing, ring_apart, ring_on, fewer, few_still}
@@ -6,9 +6,6 @@ use Rattle.ring.proofs.rings_closed.Goals as goal
 
 pub rings-init : goal.rings-init
 rings-init c = (search (rules, begin_in), search (rules, rings_begin))
-
-pub returns-in_default : goal.returns-in_default
-returns-in_default c = search (rules, rings_end)
 
 pub slice_bounds-step_of-count : goal.slice_bounds-step_of-count
 slice_bounds-step_of-count c = search (rules, next_up)
@@ -23,11 +20,11 @@ pub step_of-requires : goal.step_of-requires
 step_of-requires c = search (rules, next_bytes, fspt_fixed)
 
 -- here and below the search has too many facts before it, so the law is given those that it takes
-pub loop-h-init : goal.loop-h-init
-loop-h-init c =
+pub loop-starts-init : goal.loop-starts-init
+loop-starts-init c =
     let began =
-    ring_begin _ _ _ _ _ _ _ c.rings.invariant.1 _ c.next.ensures c.in-Entry.from c.in-Entry.to c.in-Entry.after c.in-Entry.is _
-    c.step_of.ensures c.in-Edge.first c.in-Edge.is in
+    ring_begin _ _ _ _ _ _ _ c.rings.invariant.1 _ c.next.ensures c.in-Some.from c.in-Some.to c.in-Some.after c.in-Some.is _
+    c.step_of.ensures c.in-Some-step_of.first c.in-Some-step_of.is in
     (search (rules, next_in), began, search rules, search rules)
 
 pub rings-smaller : goal.rings-smaller
@@ -36,27 +33,27 @@ rings-smaller c = search (rules, fewer)
 pub rings-preserved : goal.rings-preserved
 rings-preserved c = (search rules, search (rules, ring_closed))
 
-pub slice_bounds-step_of-count-in-loop-h : goal.slice_bounds-step_of-count-in-loop-h
-slice_bounds-step_of-count-in-loop-h c = search (rules, next_up)
+pub slice_bounds-step_of-count-in-loop-starts : goal.slice_bounds-step_of-count-in-loop-starts
+slice_bounds-step_of-count-in-loop-starts c = search (rules, next_up)
 
-pub slice_bounds-step_of-start-in-loop-h : goal.slice_bounds-step_of-start-in-loop-h
-slice_bounds-step_of-start-in-loop-h c = search (rules, next_up)
+pub slice_bounds-step_of-start-in-loop-starts : goal.slice_bounds-step_of-start-in-loop-starts
+slice_bounds-step_of-start-in-loop-starts c = search (rules, next_up)
 
-pub slice_bounds-step_of-end-in-loop-h : goal.slice_bounds-step_of-end-in-loop-h
-slice_bounds-step_of-end-in-loop-h c = search (rules, next_within)
+pub slice_bounds-step_of-end-in-loop-starts : goal.slice_bounds-step_of-end-in-loop-starts
+slice_bounds-step_of-end-in-loop-starts c = search (rules, next_within)
 
-pub step_of-requires-in-loop-h : goal.step_of-requires-in-loop-h
-step_of-requires-in-loop-h c = (search (rules, next_bytes, fspt_fixed), search rules)
+pub step_of-requires-in-loop-starts : goal.step_of-requires-in-loop-starts
+step_of-requires-in-loop-starts c = (search (rules, next_bytes, fspt_fixed), search rules)
 
-pub loop-h-smaller : goal.loop-h-smaller
-loop-h-smaller c = search (rules, next_less)
+pub loop-starts-smaller : goal.loop-starts-smaller
+loop-starts-smaller c = search (rules, next_less)
 
-pub loop-h-preserved : goal.loop-h-preserved
-loop-h-preserved c =
+pub loop-starts-preserved : goal.loop-starts-preserved
+loop-starts-preserved c =
     let on =
-    ring_on _ _ _ _ _ _ _ _ _ c.loop-h.invariant.1 _ c.usage_good.ensures c.if-not-usage_good.false-raw
-    c.if-t-start.false _ c.next-in-loop-h.ensures
-    c.in-Entry-next.from c.in-Entry-next.to c.in-Entry-next.after c.in-Entry-next.is _ c.step_of-in-loop-h.ensures c.in-Edge-step_of.u c.in-Edge-step_of.is c.if-u-t.false in
+    ring_on _ _ _ _ _ _ _ _ _ c.loop-starts.invariant.1 _ c.usage_good.ensures c.if-not-usage_good.false-raw
+    c.if-t-start.false _ c.next-in-loop-starts.ensures
+    c.in-Some-next.from c.in-Some-next.to c.in-Some-next.after c.in-Some-next.is _ c.step_of-in-loop-starts.ensures c.in-Some-step_of-2.u c.in-Some-step_of-2.is c.if-u-t.false in
     (search (rules, next_in), on, search (rules, few_still), search rules)
 
 pub returns-in_default-step_of : goal.returns-in_default-step_of
@@ -70,9 +67,12 @@ returns-in_default-next c = search (rules, ring_open)
 
 pub returns-in_default-step_of-2 : goal.returns-in_default-step_of-2
 returns-in_default-step_of-2 c =
-    next_missing _ _ _ _ _ _ _ _ _ c.loop-h.invariant.1 _ c.usage_good.ensures c.if-not-usage_good.false-raw
-    c.if-t-start.false _ c.next-in-loop-h.ensures
-    c.in-Entry-next.from c.in-Entry-next.to c.in-Entry-next.after c.in-Entry-next.is _ c.step_of-in-loop-h.ensures (search rules)
+    next_missing _ _ _ _ _ _ _ _ _ c.loop-starts.invariant.1 _ c.usage_good.ensures c.if-not-usage_good.false-raw
+    c.if-t-start.false _ c.next-in-loop-starts.ensures
+    c.in-Some-next.from c.in-Some-next.to c.in-Some-next.after c.in-Some-next.is _ c.step_of-in-loop-starts.ensures (search rules)
 
 pub returns-then-u-t : goal.returns-then-u-t
 returns-then-u-t c = search (rules, ring_apart)
+
+pub returns : goal.returns
+returns c = search (rules, rings_end)

@@ -3,8 +3,8 @@ use Rattle.spans.proofs.SpanLaws.{front_other, front_room, front_feature, front_
 use Rattle.std.proofs.Common.{rules}
 use Rattle.spans.proofs.front_of.Goals as goal
 
-pub returns-then-tag_of-ne-FIRST : goal.returns-then-tag_of-ne-FIRST
-returns-then-tag_of-ne-FIRST c = search (rules, front_other)
+pub returns-then-tag-ne-FIRST : goal.returns-then-tag-ne-FIRST
+returns-then-tag-ne-FIRST c = search (rules, front_other)
 
 pub get1-requires : goal.get1-requires
 get1-requires c = search (rules, front_room)
@@ -12,8 +12,8 @@ get1-requires c = search (rules, front_room)
 pub returns-then-get1-eq100 : goal.returns-then-get1-eq100
 returns-then-get1-eq100 c = search (rules, front_feature)
 
-pub returns-then-tag_of-ne-VRID : goal.returns-then-tag_of-ne-VRID
-returns-then-tag_of-ne-VRID c = search (rules, front_other)
+pub returns-then-tag-ne-VRID : goal.returns-then-tag-ne-VRID
+returns-then-tag-ne-VRID c = search (rules, front_other)
 
 pub returns : goal.returns
 returns c = search (rules, front_vector)

@@ -3,7 +3,7 @@ use Rattle.std.proofs.Common.{rules}
 use Rattle.spans.proofs.spans_of.Goals as goal
 
 pub loop-j-init : goal.loop-j-init
-loop-j-init c = (search rules, search rules, search (rules, span_start), search (rules, span_start), search (rules, span_start))
+loop-j-init c = (search rules, search (rules, span_start), search (rules, span_start), search (rules, span_start))
 
 pub spans_with-sp-requires : goal.spans_with-sp-requires
 spans_with-sp-requires c = (search (rules, turn_some), search (rules, turn_fits))
@@ -12,7 +12,7 @@ pub field_end-due-requires : goal.field_end-due-requires
 field_end-due-requires c = search (rules, turn_fits)
 
 pub loop-j-preserved : goal.loop-j-preserved
-loop-j-preserved c = (search rules, search (rules, turn_due), search (rules, turn_span), search (rules, turn_span), search (rules, turn_span))
+loop-j-preserved c = (search (rules, turn_due), search (rules, turn_span), search (rules, turn_span), search (rules, turn_span))
 
 pub returns : goal.returns
 returns c = (search (rules, span_end), search (rules, span_end), search (rules, span_end))

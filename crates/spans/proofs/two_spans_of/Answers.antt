@@ -3,7 +3,7 @@ use Rattle.std.proofs.Common.{rules}
 use Rattle.spans.proofs.two_spans_of.Goals as goal
 
 pub loop-j-init : goal.loop-j-init
-loop-j-init c = (search rules, search rules, search (rules, span_start), search (rules, span_start))
+loop-j-init c = (search rules, search (rules, span_start), search (rules, span_start))
 
 pub span_with-one-requires : goal.span_with-one-requires
 span_with-one-requires c = (search (rules, turn_some), search (rules, turn_fits))
@@ -15,7 +15,7 @@ pub field_end-due-requires : goal.field_end-due-requires
 field_end-due-requires c = search (rules, turn_fits)
 
 pub loop-j-preserved : goal.loop-j-preserved
-loop-j-preserved c = (search rules, search (rules, turn_due), search (rules, turn_span), search (rules, turn_span))
+loop-j-preserved c = (search (rules, turn_due), search (rules, turn_span), search (rules, turn_span))
 
 pub returns : goal.returns
 returns c = (search (rules, span_end), search (rules, span_end))

@@ -12,7 +12,7 @@ returns-then-rcnm_of-ne100 c = search (rules, item_vector)
 
 -- the search finds the class among too many numbers, so the law is given it
 pub prim_of-requires : goal.prim_of-requires
-prim_of-requires c = (search rules, search rules, feature_told _ _ _ (search rules) c.rcnm_of.ensures.0 c.if-rcnm_of-ne100.false)
+prim_of-requires c = (search rules, feature_told _ _ _ (search rules) c.rcnm_of.ensures.0 c.if-rcnm_of-ne100.false)
 
 pub returns-then-prim_of-ne3 : goal.returns-then-prim_of-ne3
 returns-then-prim_of-ne3 c = search (rules, item_other)

@@ -21,6 +21,6 @@ pub returns : goal.returns
 returns c = record {
   value = held_fault c.requires.0
       c.requires.2 refl (search rules)
-      (λ i. omega (arith, c.type_inv.s i)) _ _ (search rules) c.items_fault.ensures;
+      (λ i. omega (arith, c.type_inv.s i)) _ (search rules) c.items_fault.ensures;
   held_in = search (rules, held_stays);
 }

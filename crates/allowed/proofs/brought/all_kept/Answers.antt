@@ -5,9 +5,6 @@ use Rattle.allowed.proofs.brought.all_kept.Goals as goal
 pub loop-from-init : goal.loop-from-init
 loop-from-init c = (search (rules, begin_in), search (rules, all_begin))
 
-pub returns-in_default : goal.returns-in_default
-returns-in_default c = search (rules, all_done)
-
 pub slice_bounds-is_kept-count : goal.slice_bounds-is_kept-count
 slice_bounds-is_kept-count c = search (rules, next_up)
 
@@ -25,3 +22,6 @@ loop-from-smaller c = search (rules, next_less)
 
 pub loop-from-preserved : goal.loop-from-preserved
 loop-from-preserved c = (search (rules, next_in), search (rules, all_on))
+
+pub returns : goal.returns
+returns c = search (rules, all_done)

@@ -7,7 +7,7 @@ use Rattle.allowed.specs.Brought.{is_kept}
 use Rattle.allowed.proofs.brought.all_kept.Given as goal
 
 abbrev pub invariant-loop-from : goal.invariant-loop-from
-invariant-loop-from l = CursorIn l.s l.at l.k l.c × (all_of is_kept (entries_at l.s l.at l.k) ≡ all_of is_kept (left l.s l.at l.k l.c))
+invariant-loop-from l = CursorIn l.r.file.now l.r.at l.k l.c × (all_of is_kept (entries_at l.r.file.now l.r.at l.k) ≡ all_of is_kept (left l.r.file.now l.r.at l.k l.c))
 
 abbrev pub decreases-loop-from : goal.decreases-loop-from
-decreases-loop-from l = length (left l.s l.at l.k l.c)
+decreases-loop-from l = length (left l.r.file.now l.r.at l.k l.c)

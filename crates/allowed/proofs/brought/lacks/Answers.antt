@@ -1,15 +1,17 @@
-use Rattle.std.proofs.Common.{rules}
-use Rattle.allowed.proofs.BroughtLaws.{lacks_no, without_start, without_on, without_end}
+use borrow.Author.Tests.{tests}
+use Rattle.std.proofs.Common.{refl, rules, true, arith}
+use Rattle.std.proofs.lemmas.Iterator.{YieldsList-from_range, cases_from_all}
+use Rattle.std.specs.Bool.{⊤}
+use Rattle.allowed.specs.Brought.{SkipsTold}
+use Rattle.allowed.proofs.BroughtLaws.{lacks_so}
 use Rattle.allowed.proofs.brought.lacks.Goals as goal
 
-pub loop-f-init : goal.loop-f-init
-loop-f-init c = (search rules, without_start _ _ _, without_start _ _ _, without_start _ _ _)
-
-pub returns-then-not-skips : goal.returns-then-not-skips
-returns-then-not-skips c = (lacks_no _ _ _, lacks_no _ _ _, lacks_no _ _ _)
-
-pub loop-f-preserved : goal.loop-f-preserved
-loop-f-preserved c = (search rules, search (rules, without_on), search (rules, without_on), search (rules, without_on))
-
 pub returns : goal.returns
-returns c = (search (rules, without_end), search (rules, without_end), search (rules, without_end))
+returns c =
+    lacks_so _ _ _ _ _ c.args.r.now.head.count _ _ c.args.r.now.headed.count
+    (cases_from_all _ _ _
+    (λ f. SkipsTold c.args.r.now.file.now c.args.r.now.at f c.args.i true × SkipsTold c.args.r.now.file.now c.args.r.now.at f c.args.j true
+    × SkipsTold c.args.r.now.file.now c.args.r.now.at f c.args.k true)
+    (λ f. ⊤) c.all.ensures.ran
+    (YieldsList-from_range 0 c.args.r.now.head.count c.args.r.now.head.count refl (omega arith))
+    (λ x q k. search (rules, tests)) (λ x q k. search rules))

@@ -13,10 +13,6 @@ put_kind-requires c = (
   search rules,
   search rules,
   search rules,
-  search rules,
-  search rules,
-  search rules,
-  search rules,
   search (rules, kind_room),
 )
 

@@ -3,14 +3,14 @@ use Rattle.std.proofs.Common.{rules}
 use Rattle.amend.proofs.EditLaws.{sides_room, joined_ready, joined_room, joined_put, sides_areas, stays_room, stays_put}
 use Rattle.amend.proofs.lists.put_edited.Goals as goal
 
-pub put_lying-requires : goal.put_lying-requires
-put_lying-requires c = (search rules, search rules, search rules, search (rules, stays_room))
+pub put-requires : goal.put-requires
+put-requires c = (search rules, search (rules, stays_room))
 
 pub returns-then-stays : goal.returns-then-stays
 returns-then-stays c = (search (rules, stays_put), search rules)
 
 pub put_sides-s-requires : goal.put_sides-s-requires
-put_sides-s-requires c = (search rules, search rules, search rules, search rules, search rules, search rules, search (rules, sides_room))
+put_sides-s-requires c = (search rules, search rules, search (rules, sides_room))
 
 pub put_joined-requires : goal.put_joined-requires
 put_joined-requires c = (search (rules, joined_ready), search rules, search rules, search rules, search (rules, joined_room))

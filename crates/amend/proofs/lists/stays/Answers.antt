@@ -1,10 +1,7 @@
--- A control, or bytes that come: it doesn't stay.
+-- Bytes that come: it doesn't stay.
 use Rattle.std.proofs.Common.{rules}
-use Rattle.amend.proofs.EditLaws.{stays_not, stays_by}
+use Rattle.amend.proofs.EditLaws.{stays_by}
 use Rattle.amend.proofs.lists.stays.Goals as goal
 
-pub returns-then-there : goal.returns-then-there
-returns-then-there c = search (rules, stays_not)
-
-pub returns : goal.returns
-returns c = search (rules, stays_by)
+pub returns-then-is_none : goal.returns-then-is_none
+returns-then-is_none c = search (rules, stays_by)

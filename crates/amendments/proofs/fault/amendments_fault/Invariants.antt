@@ -1,5 +1,5 @@
 -- The answer from here on is the answer from the start.
-use Rattle.std.proofs.Common.{◌-◌, ◌≡◌, length}
+use Rattle.std.proofs.Common.{◌≡◌, length}
 use Rattle.words.specs.Words.{words_in}
 use Rattle.names.specs.NameWords.{items_at}
 use Rattle.amend.specs.Sides.{Areas}
@@ -8,8 +8,6 @@ use Rattle.amendments.proofs.fault.amendments_fault.Given as goal
 
 abbrev pub invariant-loop-k : goal.invariant-loop-k
 invariant-loop-k l =
-    Judging (items_at l.cell (words_in l.work l.from l.n)) l.update l.m l.k l.at × Areas l.join l.table × (length l.join ≡ length l.initial.join) × (length l.table ≡ length l.initial.table)
+    Judging (items_at l.cell (words_in l.work l.from l.n)) l.update l.m l.k l.at × Areas l.join l.table
+    × (length l.join ≡ length l.initial.join) × (length l.table ≡ length l.initial.table)
     × (length l.room ≡ length l.initial.room)
-
-abbrev pub decreases-loop-k : goal.decreases-loop-k
-decreases-loop-k l = l.m - l.k

@@ -8,7 +8,7 @@ pub returns-in_default : goal.returns-in_default
 returns-in_default c = update_not
 
 pub file_once-passed-requires : goal.file_once-passed-requires
-file_once-passed-requires c = started_at 2 _ c.started-start.ensures (search rules)
+file_once-passed-requires c = started_at 2 _ c.started.ensures (search rules)
 
 pub returns-then-m-eq0 : goal.returns-then-m-eq0
 returns-then-m-eq0 c = update_not
@@ -22,8 +22,8 @@ returns-then-area-m c = update_not
 pub overflow_sub-m : goal.overflow_sub-m
 overflow_sub-m c = once_two c.file_once-passed.ensures c.if-m-eq0.false
 
-pub twice-t-requires : goal.twice-t-requires
-twice-t-requires c =
+pub twice-requires : goal.twice-requires
+twice-requires c =
     let told = c.file_once-passed.ensures in
     let some = c.if-m-eq0.false in (
       once_readable told some,
@@ -31,10 +31,10 @@ twice-t-requires c =
       once_words told some c.sort.ensures,
     )
 
-pub returns-then-t-ne0 : goal.returns-then-t-ne0
-returns-then-t-ne0 c = update_not
+pub returns-then-is_some : goal.returns-then-is_some
+returns-then-is_some c = update_not
 
 pub returns : goal.returns
 returns c = update_all c.file_once-passed.ensures
     c.if-m-eq0.false c.sort.ensures _
-    c.twice-t.ensures c.if-t-ne0.false c.if-area-m.false
+    c.twice.ensures (search rules) c.if-area-m.false

@@ -1,25 +1,25 @@
--- Each return is one of the definition's tests.
-use Rattle.std.proofs.Common.{eq-eqb, ne_eqb}
-use Rattle.octets.proofs.Tests.{tests}
+-- Each arm is one of the definition's tests.
+use Rattle.std.proofs.Common.{arith}
+use Rattle.std.proofs.lemmas.Bool.Decides.{nat_tests}
 use Rattle.chart.specs.Read.{next_stage}
 use Rattle.chart.proofs.read.next_stage.Goals as goal
 
-pub returns-then-update : goal.returns-then-update
+pub returns-in-0 : goal.returns-in-0
 unfolding next_stage
-returns-then-update c = rw (eq-eqb _ _ c.if-stage-eq0.true, c.if-update.true)
+returns-in-0 c = grind (arith, nat_tests)
 
-pub returns-then-stage-eq0 : goal.returns-then-stage-eq0
+pub returns-in-0-2 : goal.returns-in-0-2
 unfolding next_stage
-returns-then-stage-eq0 c = rw (eq-eqb _ _ c.if-stage-eq0.true, c.if-update.false)
+returns-in-0-2 c = grind (arith, nat_tests)
 
-pub returns-then-stage-eq1 : goal.returns-then-stage-eq1
+pub returns-in-1 : goal.returns-in-1
 unfolding next_stage
-returns-then-stage-eq1 c = search tests
+returns-in-1 c = grind (arith, nat_tests)
 
-pub returns-then-feature : goal.returns-then-feature
+pub returns-in_default : goal.returns-in_default
 unfolding next_stage
-returns-then-feature c = rw (ne_eqb _ _ c.if-stage-eq0.false, ne_eqb _ _ c.if-stage-eq1.false, c.if-feature.true)
+returns-in_default c = grind (arith, nat_tests)
 
-pub returns-else-feature : goal.returns-else-feature
+pub returns-in_default-2 : goal.returns-in_default-2
 unfolding next_stage
-returns-else-feature c = rw (ne_eqb _ _ c.if-stage-eq0.false, ne_eqb _ _ c.if-stage-eq1.false, c.if-feature.false)
+returns-in_default-2 c = grind (arith, nat_tests)

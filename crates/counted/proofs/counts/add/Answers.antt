@@ -4,7 +4,7 @@ use Rattle.counted.proofs.CountsLaws.{read_feature, add_feature_told, add_vector
 use Rattle.counted.proofs.counts.add.Goals as goal
 
 pub objl_of-requires : goal.objl_of-requires
-objl_of-requires c = (search rules, search rules, search (rules, read_feature))
+objl_of-requires c = (search rules, search (rules, read_feature))
 
 pub returns-then-rcnm-eq100 : goal.returns-then-rcnm-eq100
 returns-then-rcnm-eq100 c = search (rules, add_feature_told)

@@ -10,8 +10,8 @@ record_end-at-requires c = search (rules, first_framed)
 pub head_of-requires : goal.head_of-requires
 head_of-requires c = search (rules, framed_headed, second_framed)
 
-pub field_at-f-requires : goal.field_at-f-requires
-field_at-f-requires c = (search rules, search (rules, dssi_third))
+pub field-f-requires : goal.field-f-requires
+field-f-requires c = search (rules, dssi_third)
 
 pub tally_good-requires : goal.tally_good-requires
 tally_good-requires c = search (rules, dssi_whole)

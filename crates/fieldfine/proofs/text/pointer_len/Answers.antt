@@ -9,9 +9,6 @@ returns-then-d-at-lt11 c = pointer_not refl
 pub returns-then-rind-lt2 : goal.returns-then-rind-lt2
 returns-then-rind-lt2 c = pointer_not refl
 
-pub returns-then-rind-gt3 : goal.returns-then-rind-gt3
-returns-then-rind-gt3 c = pointer_not refl
-
 pub returns-then-d-end-ne31 : goal.returns-then-d-end-ne31
 returns-then-d-end-ne31 c = pointer_not refl
 

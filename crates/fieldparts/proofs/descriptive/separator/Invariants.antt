@@ -4,7 +4,4 @@ use Rattle.fieldparts.specs.Descriptive.{separator_at}
 use Rattle.fieldparts.proofs.descriptive.separator.Given as goal
 
 abbrev pub invariant-loop-i : goal.invariant-loop-i
-invariant-loop-i l = (l.from ≤ l.i) × (l.i ≤ l.from + (length l.field - l.from)) × (separator_at l.field l.from ≡ separator_at l.field l.i)
-
-abbrev pub decreases-loop-i : goal.decreases-loop-i
-decreases-loop-i l = length l.field - l.i
+invariant-loop-i l = (l.i ≤ l.from + (length l.field - l.from)) × (separator_at l.field l.from ≡ separator_at l.field l.i)

@@ -8,10 +8,10 @@ overflow_add-due c = let h = c.head_of-head.ensures.base in let high = c.require
     c.requires.0.known.framed.fits in omega arith
 
 pub loop-j-init : goal.loop-j-init
-loop-j-init c = (omega arith, c.requires.1.1, walked_start _ _ _ _ _ _, due_first _ c.requires.0.known (omega arith))
+loop-j-init c = (c.requires.1.1, walked_start _ _ _ _ _ _, due_first _ c.requires.0.known (omega arith))
 
 pub field_on-f-requires : goal.field_on-f-requires
-field_on-f-requires c = (c.head_of-head.ensures, (omega arith, (c.loop-j.invariant.3, search (rules, fields_in))))
+field_on-f-requires c = (omega arith, (c.loop-j.invariant.2, search (rules, fields_in)))
 
 pub overflow_sub-to : goal.overflow_sub-to
 overflow_sub-to c = let i = field_facts c.loop-j.j _ c.requires.0
@@ -29,11 +29,11 @@ slice_bounds-field_fault-end c = let i =
     c.field_on-f.ensures in let fits =
     c.requires.0.known.framed.fits in omega arith
 
-pub field_fault-fault-requires : goal.field_fault-fault-requires
-field_fault-fault-requires c = (
+pub field_fault-judged-requires : goal.field_fault-judged-requires
+field_fault-judged-requires c = (
   lent_filled _ _ _ c.requires.0 (omega arith)
       c.field_on-f.ensures c.kind_of-k.ensures.0,
-  c.loop-j.invariant.1,
+  c.loop-j.invariant.0,
 )
 
 pub overflow_add-result : goal.overflow_add-result
@@ -42,28 +42,28 @@ overflow_add-result c = let i = field_facts c.loop-j.j
     c.field_on-f.ensures in let fits =
     c.requires.0.known.framed.fits in let l =
     lent_length c.field_on-f.result i fits in let w =
-    c.field_fault-fault.ensures.within in omega arith
+    c.in-Err.ensures.within in omega arith
 
-pub shape_of-table-then-fault-ne0 : goal.shape_of-table-then-fault-ne0
-shape_of-table-then-fault-ne0 c = c.field_fault-fault.auto.table
-    ∙ c.loop-j.invariant.1
+pub shape_of-table-in-Err : goal.shape_of-table-in-Err
+shape_of-table-in-Err c = c.field_fault-judged.auto.table
+    ∙ c.loop-j.invariant.0
     ∙ sym c.requires.1.1
 
-pub returns-then-fault-ne0 : goal.returns-then-fault-ne0
-returns-then-fault-ne0 c = let i = field_facts c.loop-j.j
+pub returns-in-Err : goal.returns-in-Err
+returns-in-Err c = let i = field_facts c.loop-j.j
     _ c.requires.0 (omega arith)
     c.field_on-f.ensures in let fits =
     c.requires.0.known.framed.fits in let l =
     lent_length c.field_on-f.result i fits in let w =
-    c.field_fault-fault.ensures.within in walked_stop c.field_on-f.result
-    c.loop-j.invariant.2 (omega arith)
+    c.in-Err.ensures.within in walked_stop c.field_on-f.result
+    c.loop-j.invariant.1 (omega arith)
     c.field_on-f.ensures
     c.kind_of-k.ensures.0
     c.kind_of-k.ensures.1
     (lent_content c.args.s.now
     c.field_on-f.result) c.stamp_of-stamp.ensures
-    c.field_fault-fault.ensures
-    c.requires.0.known.framed c.if-fault-ne0.true
+    c.field_fault-judged.ensures
+    c.requires.0.known.framed i c.in-Err.is
     (omega arith)
 
 pub overflow_add-due-in-loop-j : goal.overflow_add-due-in-loop-j
@@ -74,28 +74,24 @@ overflow_add-due-in-loop-j c = let i = field_facts c.loop-j.j
     let within = i.within in let short =
     c.requires.1.0 in omega arith
 
-pub loop-j-smaller : goal.loop-j-smaller
-loop-j-smaller c = omega arith
-
 pub loop-j-preserved : goal.loop-j-preserved
 loop-j-preserved c = (
-  omega arith,
-  c.field_fault-fault.auto.table
-      ∙ c.loop-j.invariant.1,
+  c.field_fault-judged.auto.table
+      ∙ c.loop-j.invariant.0,
   walked_on c.field_on-f.result
-      c.loop-j.invariant.2 (omega arith)
+      c.loop-j.invariant.1 (omega arith)
       c.field_on-f.ensures
       c.kind_of-k.ensures.0
       c.kind_of-k.ensures.1
       (lent_content c.args.s.now
       c.field_on-f.result)
-      c.stamp_of-stamp.ensures c.field_fault-fault.ensures c.if-fault-ne0.false,
+      c.stamp_of-stamp.ensures c.field_fault-judged.ensures c.in_default.is,
   due_next _ _ c.requires.0.known
       c.field_on-f.ensures,
 )
 
 pub shape_of-table : goal.shape_of-table
-shape_of-table c = c.loop-j.invariant.1 ∙ sym c.requires.1.1
+shape_of-table c = c.loop-j.invariant.0 ∙ sym c.requires.1.1
 
 pub returns : goal.returns
-returns c = walked_end c.loop-j.invariant.2 c.requires.0.known.framed (omega arith) (omega arith)
+returns c = walked_end c.loop-j.invariant.1 c.requires.0.known.framed (omega arith) (omega arith)

@@ -1,7 +1,17 @@
--- Every call answers its part of the definition; the whole is their composition.
+-- By the rules in turn: the first that is broken is told.
+use Rattle.std.proofs.Common.{rules}
+use Rattle.values.specs.Fault.{told, first}
 use Rattle.headvalues.specs.Dspm.{factors_fault}
 use Rattle.headvalues.proofs.dspm.factors_fault.Goals as goal
 
+pub returns-in_err-holds : goal.returns-in_err-holds
+unfolding factors_fault told first
+returns-in_err-holds c = search rules
+
+pub returns-in_err-holds-2 : goal.returns-in_err-holds-2
+unfolding factors_fault told first
+returns-in_err-holds-2 c = search rules
+
 pub returns : goal.returns
-unfolding factors_fault
-returns c = cc
+unfolding factors_fault told first
+returns c = search rules

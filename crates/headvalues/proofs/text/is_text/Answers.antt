@@ -1,16 +1,16 @@
 -- By the ranges of bytes, one law each.
-use Rattle.std.proofs.Common.{rules}
+use Rattle.std.proofs.Common.{arith}
 use Rattle.headvalues.proofs.TextLaws.{text_low, text_plain, text_between, text_high}
 use Rattle.headvalues.proofs.text.is_text.Goals as goal
 
-pub returns-then-b-lt32 : goal.returns-then-b-lt32
-returns-then-b-lt32 c = search (rules, text_low)
+pub returns-in-32-to-126 : goal.returns-in-32-to-126
+returns-in-32-to-126 c = text_plain _ _ (omega arith) (omega arith)
 
-pub returns-then-b-le126 : goal.returns-then-b-le126
-returns-then-b-le126 c = search (rules, text_plain)
+pub returns-in-160-to-255 : goal.returns-in-160-to-255
+returns-in-160-to-255 c = text_high _ _ (omega arith) (omega arith)
 
-pub returns-then-b-lt160 : goal.returns-then-b-lt160
-returns-then-b-lt160 c = search (rules, text_between)
+pub returns-in_default : goal.returns-in_default
+returns-in_default c = text_low _ _ (omega arith)
 
-pub returns : goal.returns
-returns c = text_high _ _ (search rules) (search rules)
+pub returns-in_default-2 : goal.returns-in_default-2
+returns-in_default-2 c = text_between _ _ (omega arith) (omega arith)

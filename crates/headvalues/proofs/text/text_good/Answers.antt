@@ -5,8 +5,8 @@ use Rattle.headvalues.proofs.text.text_good.Goals as goal
 pub returns-then-not-is_text : goal.returns-then-not-is_text
 returns-then-not-is_text c = search (rules, text_no)
 
-pub loop-i-preserved : goal.loop-i-preserved
-loop-i-preserved c = (search rules, search (rules, text_on))
+pub loop-b-preserved : goal.loop-b-preserved
+loop-b-preserved c = search (rules, text_on)
 
 pub returns : goal.returns
 returns c = search (rules, text_done)

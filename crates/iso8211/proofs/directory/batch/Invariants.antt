@@ -1,10 +1,7 @@
 -- The invariant: the rows so far are the definition's.
-use Rattle.std.proofs.Common.{length, take, ◌≤◌, ◌-◌, ◌+◌, ◌*◌, ◌≡◌}
+use Rattle.std.proofs.Common.{length, take, ◌+◌, ◌*◌, ◌≡◌}
 use Rattle.iso8211.specs.Directory.{rows, row_width}
 use Rattle.iso8211.proofs.directory.batch.Given as goal
 
-abbrev pub invariant-loop-k : goal.invariant-loop-k
-invariant-loop-k l = (l.k ≤ l.n) × (length l.out ≡ 8) × (l.at ≡ l.i + l.k * row_width l.l l.p) × (take l.k l.out ≡ rows l.k l.s l.l l.p l.i)
-
-abbrev pub decreases-loop-k : goal.decreases-loop-k
-decreases-loop-k l = l.n - l.k
+abbrev pub invariant-loop-row : goal.invariant-loop-row
+invariant-loop-row l = (length l.row-items ≡ l.n) × (l.at ≡ l.i + l.row-index * row_width l.l l.p) × (take l.row-index l.row-items ≡ rows l.row-index l.s l.l l.p l.i)

@@ -8,12 +8,12 @@ loop-left-init c = (omega arith, c.requires.1.1.0, left_start _ _ _ _ _ _ _)
 pub batch-rows-requires : goal.batch-rows-requires
 batch-rows-requires c = (omega arith, (omega arith, (omega arith, left_room _ _ _ _ _ (omega arith) c.loop-left.invariant.1)))
 
-pub judged-step-requires : goal.judged-step-requires
-judged-step-requires c = omega arith
+pub judged-requires : goal.judged-requires
+judged-requires c = omega arith
 
 pub returns-in_default : goal.returns-in_default
 returns-in_default c = left_bad c.loop-left.invariant.2 _ (omega arith) _ c.batch-rows.ensures
-    c.judged-step.ensures (search rules)
+    c.judged.ensures (search rules)
 
 pub overflow_mul-at : goal.overflow_mul-at
 overflow_mul-at c = omega (
@@ -37,11 +37,11 @@ loop-left-smaller c = omega arith
 
 pub loop-left-preserved : goal.loop-left-preserved
 loop-left-preserved c = (
-  batch_most c.judged-step.ensures (search rules),
+  batch_most c.judged.ensures (search rules),
   left_less _ _ _ _ _ (omega arith)
       c.loop-left.invariant.1,
   left_on c.loop-left.invariant.2 _ (omega arith)
-      _ c.batch-rows.ensures c.judged-step.ensures (search rules),
+      _ c.batch-rows.ensures c.judged.ensures (search rules),
 )
 
 pub returns : goal.returns

@@ -4,7 +4,7 @@ use Rattle.iso8211.proofs.RecordLaws.{led, end_led, end_body, end_good_lem, end_
 use Rattle.iso8211.proofs.record.good_end.Goals as goal
 
 pub returns-then-not-leader_good : goal.returns-then-not-leader_good
-returns-then-not-leader_good c = (end_led _ _ _ _ c.leader_good.ensures c.if-not-leader_good.true-raw, omega arith)
+returns-then-not-leader_good c = (end_led _ _ _ _ c.leader_good.ensures c.if-not-leader_good.true-raw, tt)
 
 pub get_digits-size-requires : goal.get_digits-size-requires
 get_digits-size-requires c = let l = led _ _ _ _ c.leader_good.ensures c.if-not-leader_good.false-raw in omega arith
@@ -24,7 +24,7 @@ returns-then-not-body_good c = (
       c.if-not-leader_good.false-raw c.get_digits-size.ensures.is
       c.get_digits-base.ensures.is c.digit_at-l.ensures.0 c.digit_at-p.ensures.0
       c.body_good.ensures c.if-not-body_good.true-raw,
-  omega arith,
+  tt,
 )
 
 pub returns : goal.returns

@@ -1,10 +1,9 @@
 -- By the test of t.
-use Rattle.std.proofs.Common.{arith, rules}
-use Rattle.itemrows.proofs.RowLaws.{fields_no, fields_one}
+use Rattle.std.proofs.Common.{arith}
+use Rattle.std.proofs.lemmas.Bool.Decides.{nat_tests}
+use Rattle.itemrows.specs.Joined.{fields_of}
 use Rattle.itemrows.proofs.rows.fields_of.Goals as goal
 
-pub returns-then-t-eq0 : goal.returns-then-t-eq0
-returns-then-t-eq0 c = (search (rules, fields_no), omega arith)
-
 pub returns : goal.returns
-returns c = (search (rules, fields_one), omega arith)
+unfolding fields_of
+returns c = (grind (arith, nat_tests), grind (arith, nat_tests))

@@ -1,5 +1,5 @@
 -- The invariant: all entries are those of the fields passed and those from here on.
-use Rattle.std.proofs.Common.{◌≤◌, ◌+◌, ◌-◌, ◌≡◌, length}
+use Rattle.std.proofs.Common.{◌+◌, ◌-◌, ◌≡◌, length}
 use Rattle.iso8211.specs.Field.{count_at}
 use Rattle.entries.specs.Entries.{entries_of}
 use Rattle.layout.specs.Layout.{shape_of}
@@ -7,7 +7,5 @@ use Rattle.items.specs.Lists.{join_from, entries_at}
 use Rattle.items.proofs.count.count.Given as goal
 
 abbrev pub invariant-loop-j : goal.invariant-loop-j
-invariant-loop-j l = (l.j ≤ count_at l.s l.at) × (length (entries_at l.s l.at l.k) ≡ l.n + length (entries_of (shape_of l.k) (join_from (count_at l.s l.at - l.j) l.s l.at l.k l.j)))
-
-abbrev pub decreases-loop-j : goal.decreases-loop-j
-decreases-loop-j l = count_at l.s l.at - l.j
+invariant-loop-j l = length (entries_at l.r.file.now l.r.at l.k)
+    ≡ l.n + length (entries_of (shape_of l.k) (join_from (count_at l.r.file.now l.r.at - l.j) l.r.file.now l.r.at l.k l.j))

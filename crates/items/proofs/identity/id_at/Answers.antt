@@ -4,8 +4,8 @@ use Rattle.iso8211.specs.declared.field.Field.{Field}
 use Rattle.items.proofs.FrontLaws.{front_id}
 use Rattle.items.proofs.identity.id_at.Goals as goal
 
-pub returns-then-tag_of-eq-FIRST : goal.returns-then-tag_of-eq-FIRST
-returns-then-tag_of-eq-FIRST c = search (rules, front_id)
+pub returns-then-tag-eq-FIRST : goal.returns-then-tag-eq-FIRST
+returns-then-tag-eq-FIRST c = search (rules, front_id)
 
 pub returns : goal.returns
-returns c = ap (λ (f : Field). f.start) c.field_at-f.ensures
+returns c = ap (λ (f : Field). f.start) c.field-f.ensures

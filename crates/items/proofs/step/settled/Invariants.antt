@@ -1,5 +1,5 @@
 -- The invariant: the entries from the cursor's field on are those from `field` on.
-use Rattle.std.proofs.Common.{◌≤◌, ◌-◌, ◌≡◌}
+use Rattle.std.proofs.Common.{◌-◌, ◌≡◌}
 use Rattle.iso8211.specs.Field.{count_at}
 use Rattle.entries.specs.Entries.{entries_of}
 use Rattle.layout.specs.Layout.{shape_of}
@@ -7,8 +7,6 @@ use Rattle.items.specs.Lists.{join_from}
 use Rattle.items.proofs.step.settled.Given as goal
 
 abbrev pub invariant-loop-field : goal.invariant-loop-field
-invariant-loop-field l = (l.field ≤ count_at l.s l.at)
-    × (entries_of (shape_of l.k) (join_from (count_at l.s l.at - l.initial.field) l.s l.at l.k l.initial.field) ≡ entries_of (shape_of l.k) (join_from (count_at l.s l.at - l.field) l.s l.at l.k l.field))
-
-abbrev pub decreases-loop-field : goal.decreases-loop-field
-decreases-loop-field l = count_at l.s l.at - l.field
+invariant-loop-field l =
+    entries_of (shape_of l.k) (join_from (count_at l.r.file.now l.r.at - l.fn.c.field) l.r.file.now l.r.at l.k l.fn.c.field)
+    ≡ entries_of (shape_of l.k) (join_from (count_at l.r.file.now l.r.at - l.field) l.r.file.now l.r.at l.k l.field)

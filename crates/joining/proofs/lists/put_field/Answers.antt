@@ -7,7 +7,7 @@ pub returns-then-t-eq0 : goal.returns-then-t-eq0
 returns-then-t-eq0 c = search (rules, field_none)
 
 pub put_list-end-requires : goal.put_list-end-requires
-put_list-end-requires c = (search rules, search rules, search (rules, field_room))
+put_list-end-requires c = (search rules, search (rules, field_room))
 
 pub put1-requires : goal.put1-requires
 put1-requires c = search (rules, field_last)

@@ -5,7 +5,7 @@ use Rattle.joining.proofs.PartLaws.{due_start, due_on, list_start, list_room, li
 use Rattle.joining.proofs.lists.put_list.Goals as goal
 
 pub loop-j-init : goal.loop-j-init
-loop-j-init c = (search rules, search (rules, due_start), search (rules, list_start))
+loop-j-init c = (search (rules, due_start), search (rules, list_start))
 
 pub overflow_add-due-in-loop-j : goal.overflow_add-due-in-loop-j
 overflow_add-due-in-loop-j c =
@@ -17,7 +17,7 @@ pub put_part-next-requires : goal.put_part-next-requires
 put_part-next-requires c = (search rules, search rules, search rules, search (rules, list_room))
 
 pub loop-j-preserved : goal.loop-j-preserved
-loop-j-preserved c = (search rules, search (rules, due_on), search (rules, list_on))
+loop-j-preserved c = (search (rules, due_on), search (rules, list_on))
 
 pub shape_of-out : goal.shape_of-out
 shape_of-out c = search (rules, going_length)

@@ -1,5 +1,5 @@
 -- The invariant: what is copied and what the fields that are left bring is the list, and the next field starts at `due`.
-use Rattle.std.proofs.Common.{◌≤◌, ◌-◌}
+use Rattle.std.proofs.Common.{◌-◌}
 use Rattle.octets.specs.Area.{Going}
 use Rattle.iso8211.specs.Field.{count_at}
 use Rattle.iso8211.specs.Premises.{Due}
@@ -8,7 +8,5 @@ use Rattle.joining.proofs.lists.put_list.Given as goal
 
 abbrev pub invariant-loop-j : goal.invariant-loop-j
 invariant-loop-j l =
-    (l.j ≤ count_at l.s l.at) × Due l.s l.at l.j l.due × Going l.initial.out l.place (list_at l.s l.at l.k) l.out l.next (join_from (count_at l.s l.at - l.j) l.s l.at l.k l.j)
-
-abbrev pub decreases-loop-j : goal.decreases-loop-j
-decreases-loop-j l = count_at l.s l.at - l.j
+    Due l.r.file.now l.r.at l.j l.due × Going l.initial.out l.place (list_at l.r.file.now l.r.at l.k) l.out l.next (join_from
+    (count_at l.r.file.now l.r.at - l.j) l.r.file.now l.r.at l.k l.j)

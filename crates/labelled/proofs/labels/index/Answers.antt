@@ -1,16 +1,14 @@
 use Rattle.std.proofs.Common.{rules}
-use Rattle.attributes.proofs.PartLaws.{attribute_long}
 use Rattle.labelled.proofs.TableLaws.{indexing_start, indexing_on, indexing_end}
 use Rattle.labelled.proofs.labels.index.Goals as goal
 
-pub loop-at-init : goal.loop-at-init
-loop-at-init c = (search rules, search rules, search (rules, indexing_start))
+pub loop-n-init : goal.loop-n-init
+loop-n-init c = (search rules, search rules, search (rules, indexing_start))
 
-pub returns-then-n-eq0 : goal.returns-then-n-eq0
-returns-then-n-eq0 c = search (rules, indexing_end)
+pub loop-n-preserved : goal.loop-n-preserved
+loop-n-preserved c =
+    let e = c.in-Some.ensures in
+    (search rules, search rules, indexing_on c.loop-n.invariant.2 _ e.size e.some e.within _ e.told e.low)
 
-pub label_at-label-requires : goal.label_at-label-requires
-label_at-label-requires c = (search (rules, attribute_long), search rules)
-
-pub loop-at-preserved : goal.loop-at-preserved
-loop-at-preserved c = (search rules, search rules, search (rules, indexing_on))
+pub returns : goal.returns
+returns c = search (rules, indexing_end)

@@ -10,11 +10,11 @@ use Rattle.labelled.specs.Table.{used}
 use Rattle.labelled.proofs.TableLaws.{Passing}
 use Rattle.labelled.proofs.labels.put_worked.Given as goal
 
-abbrev pub invariant-loop-at : goal.invariant-loop-at
-invariant-loop-at l =
+abbrev pub invariant-loop-n : goal.invariant-loop-n
+invariant-loop-n l =
     (l.i ≤ length l.held) × (length l.table ≡ length l.initial.table) × (length l.out ≡ length l.initial.out) × Passing used l.held l.initial.table l.table l.i
     × Going l.initial.out l.at (flatten (worked label_of is_removal (entries_of attribute l.held) (entries_of attribute l.brought))) l.out l.next
     (flatten (worked label_of is_removal (entries_of attribute (drop l.i l.held)) (entries_of attribute l.brought)))
 
-abbrev pub decreases-loop-at : goal.decreases-loop-at
-decreases-loop-at l = length l.held - l.i
+abbrev pub decreases-loop-n : goal.decreases-loop-n
+decreases-loop-n l = length l.held - l.i

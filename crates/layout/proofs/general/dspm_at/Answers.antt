@@ -13,8 +13,8 @@ record_end-at-requires c = search (rules, comf_second)
 pub head_of-requires : goal.head_of-requires
 head_of-requires c = search (rules, framed_headed, dspm_framed)
 
-pub field_at-f-requires : goal.field_at-f-requires
-field_at-f-requires c = (search rules, search (rules, dspm_second))
+pub field-f-requires : goal.field-f-requires
+field-f-requires c = search (rules, dspm_second)
 
 pub returns : goal.returns
 returns c = (search (rules, dspm_start), search (rules, dspm_whole))

@@ -2,14 +2,14 @@ use Rattle.listingrows.proofs.TextLaws.{tabbed_start, tabbed_room, tabbed_on, ta
 use Rattle.std.proofs.Common.{rules}
 use Rattle.listingrows.proofs.text.put_tabbed.Goals as goal
 
-pub loop-k-init : goal.loop-k-init
-loop-k-init c = (search rules, search (rules, tabbed_start))
+pub loop-v-init : goal.loop-v-init
+loop-v-init c = search (rules, tabbed_start)
 
 pub put_next-next-requires : goal.put_next-next-requires
 put_next-next-requires c = search (rules, tabbed_room)
 
-pub loop-k-preserved : goal.loop-k-preserved
-loop-k-preserved c = (search rules, search (rules, tabbed_on))
+pub loop-v-preserved : goal.loop-v-preserved
+loop-v-preserved c = search (rules, tabbed_on)
 
 pub put1-requires : goal.put1-requires
 put1-requires c = search (rules, tabbed_feed)

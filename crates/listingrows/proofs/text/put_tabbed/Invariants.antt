@@ -1,11 +1,8 @@
--- The invariant: of the rest of the line, what is left is that of the numbers from k on.
-use Rattle.std.proofs.Common.{◌-◌, length, drop, ◌≡◌}
+-- The invariant: of the rest of the line, what is left is that of the numbers that are left.
+use Rattle.std.proofs.Common.{drop}
 use Rattle.octets.specs.Area.{Going}
 use Rattle.listingrows.specs.Text.{tabbed}
 use Rattle.listingrows.proofs.text.put_tabbed.Given as goal
 
-abbrev pub invariant-loop-k : goal.invariant-loop-k
-invariant-loop-k l = (length l.area ≡ length l.initial.area) × Going l.initial.area l.at (tabbed l.numbers) l.area l.next (tabbed (drop l.k l.numbers))
-
-abbrev pub decreases-loop-k : goal.decreases-loop-k
-decreases-loop-k l = length l.numbers - l.k
+abbrev pub invariant-loop-v : goal.invariant-loop-v
+invariant-loop-v l = Going l.initial.area l.at (tabbed l.numbers) l.area l.next (tabbed (drop l.v-index l.numbers))

@@ -10,13 +10,13 @@ pub head_of-h-requires : goal.head_of-h-requires
 head_of-h-requires c = search (rules, framed_headed, turn_framed)
 
 pub word_for-w-requires : goal.word_for-w-requires
-word_for-w-requires c = (search (rules, turn_laid), search rules, search (rules, turn_identified), search rules)
+word_for-w-requires c = (search (rules, turn_laid), search (rules, turn_identified), search rules)
 
 pub record_end-at-requires : goal.record_end-at-requires
 record_end-at-requires c = search (rules, turn_framed)
 
 pub loop-i-preserved : goal.loop-i-preserved
-loop-i-preserved c = (search rules, search (rules, collect_next), search (rules, collect_turn))
+loop-i-preserved c = (search (rules, collect_next), search (rules, collect_turn))
 
 pub returns : goal.returns
 returns c = search (rules, collect_done)

@@ -1,18 +1,5 @@
-use Rattle.octets.proofs.AreaLaws.{going_start, going_length, copy_more, copy_all}
-use Rattle.std.proofs.Common.{add-zero, arith}
+use Rattle.octets.proofs.AreaLaws.{copy_all}
 use Rattle.octets.proofs.area.copy.Goals as goal
 
-pub loop-i-init : goal.loop-i-init
-loop-i-init c = (omega arith, rw (add-zero c.args.at) (going_start _ _ _ (omega arith)))
-
-pub bounds-area-at : goal.bounds-area-at
-bounds-area-at c = omega (arith, going_length c.loop-i.invariant.1)
-
-pub loop-i-preserved : goal.loop-i-preserved
-loop-i-preserved c = (omega arith, copy_more c.loop-i.invariant.1 c.requires c.loop-i-test.true)
-
-pub shape_of-area : goal.shape_of-area
-shape_of-area c = going_length c.loop-i.invariant.1
-
 pub returns : goal.returns
-returns c = copy_all c.loop-i.invariant.1 (omega arith)
+returns c = copy_all _ _ _ _ c.requires c.copy_from_slice.ensures.after

@@ -1,24 +1,25 @@
-use Rattle.std.proofs.Common.{arith, rules}
-use Rattle.octets.proofs.DigitsLaws.{digits_start, turn_low, turn_high, turn_on, digits_end, led_more, led_fits}
+use Rattle.std.proofs.Common.{arith, refl}
+use Rattle.octets.proofs.DigitsLaws.{digits_start, turn_off, turn_on, turn_small, digits_end, led_more}
 use Rattle.octets.proofs.digits.get_digits.Goals as goal
 
-pub loop-k-init : goal.loop-k-init
-loop-k-init c = (search rules, search rules, digits_start _ _ _)
+pub loop-b-init : goal.loop-b-init
+loop-b-init c = (omega arith, digits_start _ _ _)
 
-pub returns-then-b-lt48 : goal.returns-then-b-lt48
-returns-then-b-lt48 c = search (rules, turn_low)
-
-pub returns-then-b-gt57 : goal.returns-then-b-gt57
-returns-then-b-gt57 c = search (rules, turn_high)
+pub returns-then-not-is_ascii_digit : goal.returns-then-not-is_ascii_digit
+returns-then-not-is_ascii_digit c = turn_off _ _ _ _ _ _ c.requires.1 c.loop-b-test.true c.loop-b.invariant.1 refl c.if-not-is_ascii_digit.ensures.cases
 
 pub overflow_mul-led : goal.overflow_mul-led
-overflow_mul-led c = omega (arith, led_fits _ _ c.loop-k.invariant.1 (omega arith))
+overflow_mul-led c = omega (arith, turn_small _ _ _ _ _ _ c.requires.1 c.loop-b-test.true c.loop-b.invariant.1 refl c.requires.0 c.loop-b.invariant.0)
 
 pub overflow_add-led : goal.overflow_add-led
-overflow_add-led c = omega (arith, led_fits _ _ c.loop-k.invariant.1 (omega arith))
+overflow_add-led c =
+    omega (arith, c.if-not-is_ascii_digit.ensures.cases, turn_small _ _ _ _ _ _ c.requires.1 c.loop-b-test.true c.loop-b.invariant.1 refl c.requires.0 c.loop-b.invariant.0)
 
-pub loop-k-preserved : goal.loop-k-preserved
-loop-k-preserved c = (search rules, search (rules, led_more), search (rules, turn_on))
+pub loop-b-preserved : goal.loop-b-preserved
+loop-b-preserved c = rw c.wide.ensures.0 (
+  led_more _ _ _ c.loop-b.invariant.0 c.if-not-is_ascii_digit.ensures.cases.1,
+  turn_on _ _ _ _ _ _ c.requires.1 c.loop-b-test.true c.loop-b.invariant.1 refl c.if-not-is_ascii_digit.ensures.cases,
+)
 
 pub returns : goal.returns
-returns c = search (rules, digits_end)
+returns c = digits_end _ _ _ _ _ c.requires.1 c.loop-b-test.false c.loop-b.auto.b-index-end c.loop-b.invariant.0 c.requires.0 c.loop-b.invariant.1

@@ -1,11 +1,8 @@
--- The invariant: the last c digits are written, and what is left is v without them.
-use Rattle.std.proofs.Common.{◌≡◌, ◌+◌, ◌-◌, ◌/◌, ◌^◌, ◌≤◌}
+-- The invariant: the digits from k on are written, and what is left is v without them.
+use Rattle.std.proofs.Common.{◌≡◌, ◌+◌, ◌-◌, ◌/◌, ◌^◌}
 use Rattle.octets.specs.Digits.{digits_of}
 use Rattle.octets.specs.Area.{Wrote}
 use Rattle.octets.proofs.digits.put_digits.Given as goal
 
-abbrev pub invariant-loop-c : goal.invariant-loop-c
-invariant-loop-c l = (l.c ≤ l.w) × (l.left ≡ l.v / 10 ^ l.c) × Wrote l.initial.area (l.at + (l.w - l.c)) (digits_of l.c l.v) l.area (l.at + l.w)
-
-abbrev pub decreases-loop-c : goal.decreases-loop-c
-decreases-loop-c l = l.w - l.c
+abbrev pub invariant-loop-k : goal.invariant-loop-k
+invariant-loop-k l = (l.left ≡ l.v / 10 ^ (l.w - l.k)) × Wrote l.initial.area (l.at + l.k) (digits_of (l.w - l.k) l.v) l.area (l.at + l.w)

@@ -1,21 +1,26 @@
-use Rattle.std.proofs.Common.{rules}
-use Rattle.octets.proofs.DigitsLaws.{digits_start, sure_low, sure_more, sure_on, sure_end, sure_small, sure_times, sure_sum}
+use Rattle.std.proofs.Common.{arith, refl}
+use Rattle.octets.proofs.DigitsLaws.{digits_start, turn, sure_small, sure_more, sure_on, sure_end}
 use Rattle.octets.proofs.digits.sure_digits.Goals as goal
 
-pub loop-k-init : goal.loop-k-init
-loop-k-init c = (search rules, search rules, digits_start _ _ _)
+pub loop-b-init : goal.loop-b-init
+loop-b-init c = (omega arith, digits_start _ _ _)
 
 pub overflow_mul-led : goal.overflow_mul-led
-overflow_mul-led c = search (rules, sure_times)
+overflow_mul-led c = omega (arith, sure_small _ _ _ _ _ _ c.requires c.loop-b-test.true c.loop-b.invariant.1 refl c.loop-b.invariant.0)
 
 pub overflow_sub-led : goal.overflow_sub-led
-overflow_sub-led c = search (rules, sure_low)
+overflow_sub-led c = omega (arith, turn _ _ _ _ _ _ c.requires c.loop-b-test.true c.loop-b.invariant.1 refl)
 
 pub overflow_add-led : goal.overflow_add-led
-overflow_add-led c = search (rules, sure_sum)
+overflow_add-led c =
+    let digit = turn _ _ _ _ _ _ c.requires c.loop-b-test.true c.loop-b.invariant.1 refl in
+    omega (arith, digit, sure_small _ _ _ _ _ _ c.requires c.loop-b-test.true c.loop-b.invariant.1 refl c.loop-b.invariant.0)
 
-pub loop-k-preserved : goal.loop-k-preserved
-loop-k-preserved c = (search rules, search (rules, sure_more), search (rules, sure_on))
+pub loop-b-preserved : goal.loop-b-preserved
+loop-b-preserved c = rw c.wide.ensures.0 (
+  sure_more _ _ _ _ _ _ c.requires c.loop-b-test.true c.loop-b.invariant.1 refl c.loop-b.invariant.0,
+  sure_on _ _ _ _ _ _ c.requires c.loop-b-test.true c.loop-b.invariant.1 refl,
+)
 
 pub returns : goal.returns
-returns c = (search (rules, sure_end), search (rules, sure_small))
+returns c = sure_end _ _ _ _ _ c.requires c.loop-b-test.false c.loop-b.invariant.1

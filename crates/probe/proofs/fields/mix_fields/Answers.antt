@@ -5,6 +5,6 @@ use Rattle.probe.proofs.fields.mix_fields.Goals as goal
 pub mix_field-so-requires : goal.mix_field-so-requires
 mix_field-so-requires c = (
   search rules,
-  let ends : c.field_at-field.result.start + c.field_at-field.result.length ≤ length c.args.file.now =
+  let ends : c.field-field.result.start + c.field-field.result.length ≤ length c.args.file.now =
       search (rules, field_ends) in omega arith,
 )

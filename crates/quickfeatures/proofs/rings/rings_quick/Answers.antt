@@ -1,32 +1,29 @@
-use Rattle.std.proofs.Common.{false, ⊎_elim, arith, rules}
+use Rattle.std.proofs.Common.{⊎_elim, arith, rules}
 use Rattle.quickfeatures.proofs.TrodLaws.{rings_no, rings_start, rings_end, trod_room, inside_first, inside_on, ring_closed, ring_open}
 use Rattle.quickfeatures.proofs.rings.rings_quick.Goals as goal
 
-pub rings-init : goal.rings-init
-rings-init c = search (rules, rings_start)
-
-pub returns-then-to-i-lt-FSPT : goal.returns-then-to-i-lt-FSPT
-returns-then-to-i-lt-FSPT c = search (rules, rings_end)
+pub loop-i-init : goal.loop-i-init
+loop-i-init c = search (rules, rings_start)
 
 pub overflow_add-i : goal.overflow_add-i
 overflow_add-i c = search (rules, trod_room)
 
-pub rings-smaller : goal.rings-smaller
-rings-smaller c = search (rules, trod_room)
+pub loop-i-smaller : goal.loop-i-smaller
+loop-i-smaller c = search (rules, trod_room)
 
-pub rings-preserved : goal.rings-preserved
-rings-preserved c =
+pub loop-i-preserved : goal.loop-i-preserved
+loop-i-preserved c =
     ⊎_elim (λ w. search (rules, ring_closed, inside_on)) (λ w. search (rules, ring_closed, inside_first)) c.if-begun.branch-raw
 
 pub loop-t-smaller : goal.loop-t-smaller
 loop-t-smaller c =
-    omega (arith, trod_room _ _ _ _ _ _ _ c.trod_at.ensures c.in-Along.t c.in-Along.next c.in-Along.is)
+    omega (arith, trod_room _ _ _ _ _ _ _ c.trod_at.ensures c.in-Some.t c.in-Some.next c.in-Some.is)
 
 pub loop-t-preserved : goal.loop-t-preserved
 loop-t-preserved c =
     let so = c.loop-t.invariant.0 in
     let told = c.trod_at.ensures in
-    let is = c.in-Along.is in
+    let is = c.in-Some.is in
     let good = c.usage_good.ensures in
     let pass = c.if-not-usage_good.false-raw in
     let further = c.if-due-home.false in (
@@ -45,3 +42,6 @@ returns-then-t-due c = search (rules, rings_no)
 
 pub returns-then-not-usage_good : goal.returns-then-not-usage_good
 returns-then-not-usage_good c = search (rules, rings_no)
+
+pub returns : goal.returns
+returns c = search (rules, rings_end)

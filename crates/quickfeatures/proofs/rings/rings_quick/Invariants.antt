@@ -10,8 +10,8 @@ invariant-loop-t l =
 abbrev pub decreases-loop-t : goal.decreases-loop-t
 decreases-loop-t l = l.to - l.i
 
-abbrev pub invariant-rings : goal.invariant-rings
-invariant-rings l = Followed l.s l.from l.to l.work l.m l.v l.exterior false 0 0 l.i
+abbrev pub invariant-loop-i : goal.invariant-loop-i
+invariant-loop-i l = Followed l.s l.from l.to l.work l.m l.v l.exterior false 0 0 l.i
 
-abbrev pub decreases-rings : goal.decreases-rings
-decreases-rings l = l.to - l.i
+abbrev pub decreases-loop-i : goal.decreases-loop-i
+decreases-loop-i l = l.to - l.i

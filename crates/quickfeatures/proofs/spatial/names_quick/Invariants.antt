@@ -1,10 +1,9 @@
 -- The rules of all FSPT are the rules of those left.
-use Rattle.std.proofs.Common.{◌-◌}
+use Rattle.std.proofs.Common.{◌-◌, ◌≡◌, take, drop}
+use Rattle.std.specs.Slice.Iter.{chunks_exact_rest, chunks_exact_size}
 use Rattle.quickfeatures.proofs.NameLaws.{Named}
 use Rattle.quickfeatures.proofs.spatial.names_quick.Given as goal
 
-abbrev pub invariant-loop-i : goal.invariant-loop-i
-invariant-loop-i l = Named l.s l.from l.to l.prim l.work l.m l.i
-
-abbrev pub decreases-loop-i : goal.decreases-loop-i
-decreases-loop-i l = l.to - l.i
+abbrev pub invariant-loop-e : goal.invariant-loop-e
+invariant-loop-e l =
+    Named l.prim l.work l.m (take (l.to - l.from) (drop l.from l.s)) (chunks_exact_rest l.e-iterator) × (chunks_exact_size l.e-iterator ≡ 8)

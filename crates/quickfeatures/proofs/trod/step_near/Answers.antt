@@ -3,8 +3,8 @@ use Rattle.quickfeatures.proofs.TrodLaws.{trod_astray, trod_back, trod_forth, tr
 use Rattle.std.proofs.Common.{rules}
 use Rattle.quickfeatures.proofs.trod.step_near.Goals as goal
 
-pub returns-in_default : goal.returns-in_default
-returns-in_default c = search (rules, trod_astray)
+pub returns-in_err-i : goal.returns-in_err-i
+returns-in_err-i c = search (rules, trod_astray)
 
 pub index_behind-next-requires : goal.index_behind-next-requires
 index_behind-next-requires c = search (rules, trod_below)

@@ -5,10 +5,10 @@ use Rattle.readboth.proofs.read.update_opened.Goals as goal
 
 pub both_checked-requires : goal.both_checked-requires
 both_checked-requires c =
-    (c.requires, counted 2 _ _ _ c.opened-front.ensures (search rules))
+    (c.requires, counted 2 _ _ _ c.opened.ensures (search rules))
 
-pub returns-in-Refused : goal.returns-in-Refused
-returns-in-Refused c = opened_refused 2 _ _ c.opened-front.ensures _ _ (search rules)
+pub returns-in-Err : goal.returns-in-Err
+returns-in-Err c = opened_refused 2 _ _ c.opened.ensures _ _ (search rules)
 
-pub returns-in-Count : goal.returns-in-Count
-returns-in-Count c = opened_on 2 _ _ c.opened-front.ensures _ _ _ (search rules) c.both_checked.ensures
+pub returns-in-Ok : goal.returns-in-Ok
+returns-in-Ok c = opened_on 2 _ _ c.opened.ensures _ _ _ (search rules) c.both_checked.ensures

@@ -1,28 +1,25 @@
 -- Codes 4 to 6, then 7; without any of them the words are those that `repeated` left.
-use Rattle.std.proofs.Common.{true}
-use Rattle.reader.proofs.ReaderLaws.{readable, update_read, update_none, update_twice, update_fine, come_refused, come_words}
+use Rattle.std.proofs.Common.{true, rules}
+use Rattle.answers.proofs.OutcomeLaws.{none_of}
+use Rattle.reader.proofs.ReaderLaws.{readable, update_read, update_twice, update_fine, come_words}
 use Rattle.reader.proofs.fault.update_fault.Goals as goal
 
-pub returns-then-code-ne0 : goal.returns-then-code-ne0
-returns-then-code-ne0 c = record { value = update_read _ _ _ c.read_fault-r.ensures c.if-code-ne0.true; come_in = λ z. absurd (c.if-code-ne0.true z) }
+pub returns-in_err-read_fault-clause-value : goal.returns-in_err-read_fault-clause-value
+returns-in_err-read_fault-clause-value c = search (rules, update_read)
 
-pub repeated-t-requires : goal.repeated-t-requires
-repeated-t-requires c = (
-  (readable true _ _ c.requires.framed c.requires.short
-      (update_none _ _ _ c.read_fault-r.ensures c.if-code-ne0.false)),
+pub repeated-requires : goal.repeated-requires
+repeated-requires c = (
+  readable true _ _ c.requires.framed c.requires.short (none_of _ c.read_fault.ensures c.in_ok-read_fault.was),
   c.requires.room,
 )
 
-pub returns-then-index-ne0 : goal.returns-then-index-ne0
-returns-then-index-ne0 c = record {
-  value = update_twice _ _ _ c.read_fault-r.ensures c.if-code-ne0.false
-      _ c.repeated-t.ensures.value _ c.if-index-ne0.true c.refuse.ensures;
-  come_in = come_refused _ 6 _ _ c.refuse.ensures;
-}
+pub returns-in-Some-clause-value : goal.returns-in-Some-clause-value
+returns-in-Some-clause-value c =
+    update_twice _ _ (none_of _ c.read_fault.ensures c.in_ok-read_fault.was) c.repeated.ensures.value _ c.in-Some.is c.refuse.ensures
 
-pub returns : goal.returns
-returns c = record {
-  value = update_fine _ _ _ c.read_fault-r.ensures c.if-code-ne0.false
-      _ c.repeated-t.ensures.value _ c.if-index-ne0.false c.refuse-2.ensures;
-  come_in = λ z. come_words c.repeated-t.ensures.update_after;
-}
+pub returns-clause-value : goal.returns-clause-value
+returns-clause-value c =
+    update_fine _ _ (none_of _ c.read_fault.ensures c.in_ok-read_fault.was) c.repeated.ensures.value c.in_default.is
+
+pub returns-clause-come_in : goal.returns-clause-come_in
+returns-clause-come_in c = λ z. come_words c.repeated.ensures.update_after

@@ -4,7 +4,7 @@ use Rattle.std.proofs.Common.{rules}
 use Rattle.reader.proofs.front.opened.Goals as goal
 
 pub opened_from-requires : goal.opened_from-requires
-opened_from-requires c = start_framed _ c.started-start.ensures _ (search rules)
+opened_from-requires c = start_framed _ c.started.ensures _ (search rules)
 
-pub returns-in-Refused : goal.returns-in-Refused
-returns-in-Refused c = start_answer _ c.started-start.ensures _ (search rules)
+pub returns-in_err-at : goal.returns-in_err-at
+returns-in_err-at c = search (rules, start_answer)

@@ -5,8 +5,8 @@ use Rattle.reader.proofs.front.started.Goals as goal
 pub returns-then-s-gt-MOST_BYTES : goal.returns-then-s-gt-MOST_BYTES
 returns-then-s-gt-MOST_BYTES c = start_long _ _ _ c.if-s-gt-MOST_BYTES.true c.answered.ensures
 
-pub returns-then-end-eq0 : goal.returns-then-end-eq0
-returns-then-end-eq0 c = start_broken _ _ c.if-s-gt-MOST_BYTES.false _ c.good_end-end.ensures.0 _ c.if-end-eq0.true c.answered-then-end-eq0.ensures
+pub returns-in_default : goal.returns-in_default
+returns-in_default c = start_broken _ _ c.if-s-gt-MOST_BYTES.false _ c.in_default.ensures.0 c.answered-in_default.ensures
 
 pub returns : goal.returns
-returns c = start_found _ _ c.if-s-gt-MOST_BYTES.false _ c.good_end-end.ensures.0 c.if-end-eq0.false
+returns c = start_found _ _ c.if-s-gt-MOST_BYTES.false _ c.in-Some.ensures.0

@@ -7,12 +7,12 @@ pub read_rest-requires : goal.read_rest-requires
 read_rest-requires c = (
   passed_over _ c.requires
       c.file_once-passed.ensures,
-  sym c.opened_from-front.ensures ∙ (search rules),
+  sym c.opened_from.ensures ∙ (search rules),
 )
 
-pub returns-in-Refused : goal.returns-in-Refused
-returns-in-Refused c = told_front _ _ _ c.opened_from-front.ensures (search rules)
+pub returns-in_err-n : goal.returns-in_err-n
+returns-in_err-n c = search (rules, told_front)
 
-pub returns-in-Count : goal.returns-in-Count
-returns-in-Count c = told_along c.file_once-passed.auto.area
+pub returns : goal.returns
+returns c = told_along c.file_once-passed.auto.area
     c.read_rest.ensures

@@ -12,13 +12,11 @@ overflow_mul-n-then-work-n c = omega (arith, opened_few _ _ c.requires.1)
 pub returns-then-work-n : goal.returns-then-work-n
 returns-then-work-n c = told_work _ _ c.requires.1 _ _ c.if-work-n.true c.answered.ensures
 
-pub rest_fault-r-requires : goal.rest_fault-r-requires
-rest_fault-r-requires c = opened_passed _ _ c.requires.1 c.requires.0 c.if-work-n.false
+pub rest_fault-requires : goal.rest_fault-requires
+rest_fault-requires c = opened_passed _ _ c.requires.1 c.requires.0 c.if-work-n.false
 
-pub returns-then-code-ne0 : goal.returns-then-code-ne0
-returns-then-code-ne0 c = told_filed _ _ c.requires.1 _ _ _
-    c.if-work-n.false c.rest_fault-r.ensures.value c.if-code-ne0.true c.filed.ensures
+pub returns-in-Err : goal.returns-in-Err
+returns-in-Err c = told_filed _ _ c.requires.1 _ c.if-work-n.false c.rest_fault.ensures.value _ c.in-Err.is c.of_refusal.ensures
 
 pub returns : goal.returns
-returns c = told_read _ _ c.requires.1 _ _ c.rest_fault-r.auto.work
-    c.if-work-n.false c.rest_fault-r.ensures.value c.if-code-ne0.false c.rest_fault-r.ensures.held_in
+returns c = told_read _ _ c.requires.1 _ c.if-work-n.false c.rest_fault.ensures.value c.rest_fault.auto.work c.in_default.is c.rest_fault.ensures.held_in

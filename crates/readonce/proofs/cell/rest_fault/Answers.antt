@@ -7,10 +7,8 @@ passed_fault-requires c = rest_passed c.requires c.if-count-ne0.true
 
 pub returns-then-count-ne0 : goal.returns-then-count-ne0
 returns-then-count-ne0 c = record {
-  value = rest_is c.requires c.if-count-ne0.true _
-      c.passed_fault.ensures.value;
-  held_in = rest_held c.requires
-      c.if-count-ne0.true _ c.passed_fault.ensures.held_in;
+  value = rest_is c.requires c.if-count-ne0.true c.passed_fault.ensures.value;
+  held_in = rest_held c.requires c.if-count-ne0.true c.passed_fault.ensures.held_in;
 }
 
 pub cell_fault_from-requires : goal.cell_fault_from-requires

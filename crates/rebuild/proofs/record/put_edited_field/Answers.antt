@@ -1,9 +1,12 @@
 use Rattle.std.proofs.Common.{rules}
-use Rattle.rebuild.proofs.PuttingLaws.{kind_fits, edited_none, edited_last, edited_put, edited_least, edited_most}
+use Rattle.rebuild.proofs.PuttingLaws.{kind_fits, edited_given, edited_none, edited_last, edited_put, edited_least, edited_most}
 use Rattle.rebuild.proofs.record.put_edited_field.Goals as goal
 
-pub put_kind-end-requires : goal.put_kind-end-requires
-put_kind-end-requires c = (search rules, search rules, search rules, search rules, search rules, search rules, search rules, search rules, search (rules, kind_fits))
+pub put_kind-requires : goal.put_kind-requires
+put_kind-requires c = (search rules, search rules, search rules, search rules, search (rules, kind_fits))
+
+pub unwrap-end-requires : goal.unwrap-end-requires
+unwrap-end-requires c = search (rules, edited_given)
 
 pub returns-then-end-place : goal.returns-then-end-place
 returns-then-end-place c = (search (rules, edited_none), search rules, search rules, search rules)

@@ -7,11 +7,11 @@ use Rattle.rebuild.proofs.record.put_edited_record.Goals as goal
 pub put_feature-requires : goal.put_feature-requires
 put_feature-requires c = (
   search (rules, editable_old),
-  search rules,
   search (rules, editable_known),
   search (rules, editable_feature),
   search (rules, editable_low),
-  search (rules, lists_small),
+  search
+      (rules, lists_small),
   search rules,
 )
 
@@ -21,7 +21,7 @@ returns-then-rcnm_of-eq100 c =
     (search (rules, feature_made), search rules)
 
 pub put_vector-requires : goal.put_vector-requires
-put_vector-requires c = (search (rules, editable_old), search rules, search (rules, editable_known), search (rules, editable_low), search (rules, lists_small), search rules)
+put_vector-requires c = (search (rules, editable_old), search (rules, editable_known), search (rules, editable_low), search (rules, lists_small), search rules)
 
 pub returns : goal.returns
 returns c =

@@ -1,12 +1,14 @@
-use Rattle.records.proofs.HeadLaws.{longest_more, longest_all}
-use Rattle.std.proofs.Common.{arith}
+use Rattle.std.proofs.Common.{take, rules}
+use Rattle.std.proofs.lemmas.Iterator.{YieldsList-from_slice, YieldsList-from_map}
+use Rattle.std.proofs.lemmas.Iterator.Consumers.{YieldsList-at, max_from_yields_List}
+use Rattle.iso8211.specs.Directory.{len}
+use Rattle.records.proofs.HeadLaws.{longest_by}
 use Rattle.records.proofs.head.longest_of.Goals as goal
 
-pub loop-k-init : goal.loop-k-init
-loop-k-init c = (omega arith, omega arith)
-
-pub loop-k-preserved : goal.loop-k-preserved
-loop-k-preserved c = (omega arith, rw c.larger-m.ensures (longest_more _ _ _ 0 0 c.loop-k-test.true (omega arith) _ c.loop-k.invariant.1))
-
 pub returns : goal.returns
-returns c = longest_all _ c.loop-k.k c.args.n _ (omega arith) (omega arith) c.loop-k.invariant.1
+returns c =
+    longest_by _ c.max.result _
+    (max_from_yields_List c.map.result c.max.result c.max.ensures.ran
+    (YieldsList-from_map _ len (YieldsList-at c.map.ensures.source (YieldsList-from_slice (take c.args.n c.args.rows) c.iter.ensures.rest)) c.map.ensures.closure
+    (λ x r q k. search rules)))
+    c.unwrap_or.ensures

@@ -2,15 +2,13 @@
 use Rattle.reissue.specs.Plan.{within_limits}
 use Rattle.octets.proofs.Tests.{tests}
 use Rattle.reissue.proofs.plan.within_limits.Goals as goal
+use Rattle.reissue.proofs.plan.within_limits.Goals.{then-n-le-MOST_RECORDS, else-n-le-MOST_RECORDS}
 
-pub returns-then-n-gt-MOST_RECORDS : goal.returns-then-n-gt-MOST_RECORDS
+pub returns-then-most-le-LONGEST_RECORD : goal.returns-then-most-le-LONGEST_RECORD
 unfolding within_limits
-returns-then-n-gt-MOST_RECORDS c = search tests
+returns-then-most-le-LONGEST_RECORD c = search tests
 
-pub returns-then-most-gt-LONGEST_RECORD : goal.returns-then-most-gt-LONGEST_RECORD
+pub returns-else-most-le-LONGEST_RECORD : goal.returns-else-most-le-LONGEST_RECORD
 unfolding within_limits
-returns-then-most-gt-LONGEST_RECORD c = search tests
-
-pub returns : goal.returns
-unfolding within_limits
-returns c = search tests
+returns-else-most-le-LONGEST_RECORD c =
+    elim c.if-n-le-MOST_RECORDS.branch [ then-n-le-MOST_RECORDS w ↦ search tests | else-n-le-MOST_RECORDS w ↦ search tests ]

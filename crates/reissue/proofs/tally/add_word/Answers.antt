@@ -6,7 +6,6 @@ use Rattle.reissue.proofs.tally.add_word.Goals as goal
 pub objl_of-requires : goal.objl_of-requires
 objl_of-requires c = (
   search rules,
-  search rules,
   word_feature c.requires.1 (λ i. omega (arith, c.type_inv.s i))
       (search rules),
 )

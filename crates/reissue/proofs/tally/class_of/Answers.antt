@@ -3,14 +3,14 @@ use Rattle.reissue.specs.Tally.{class_of}
 use Rattle.octets.proofs.Tests.{tests}
 use Rattle.reissue.proofs.tally.class_of.Goals as goal
 
-pub returns-then-rank-eq0 : goal.returns-then-rank-eq0
+pub returns-in-0 : goal.returns-in-0
 unfolding class_of
-returns-then-rank-eq0 c = search tests
+returns-in-0 c = search tests
 
-pub returns-then-rank-eq1 : goal.returns-then-rank-eq1
+pub returns-in-1 : goal.returns-in-1
 unfolding class_of
-returns-then-rank-eq1 c = search tests
+returns-in-1 c = search tests
 
-pub returns : goal.returns
+pub returns-in_default : goal.returns-in_default
 unfolding class_of
-returns c = search tests
+returns-in_default c = search tests

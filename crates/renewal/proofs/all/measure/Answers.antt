@@ -9,10 +9,6 @@ loop-i-init c = (
   search rules,
   search rules,
   search rules,
-  search rules,
-  search rules,
-  search rules,
-  search rules,
   search (rules, able_start),
   search (rules, counted_start),
   search (rules, same_start),
@@ -23,10 +19,6 @@ size_at-one-requires c = (search (rules, walk_able), search rules)
 
 pub loop-i-preserved : goal.loop-i-preserved
 loop-i-preserved c = (
-  search rules,
-  search rules,
-  search rules,
-  search rules,
   search rules,
   search rules,
   search rules,

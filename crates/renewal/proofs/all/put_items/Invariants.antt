@@ -1,5 +1,5 @@
 -- The invariant: what is written and the records that are left are all records.
-use Rattle.std.proofs.Common.{◌+◌, ◌-◌, ◌≤◌, ◌≡◌, length}
+use Rattle.std.proofs.Common.{◌+◌, ◌≤◌}
 use Rattle.merge.specs.Places.{places_from}
 use Rattle.resultitems.specs.Able.{AllAble, Rooms}
 use Rattle.octets.specs.Area.{Going}
@@ -9,10 +9,7 @@ use Rattle.renewal.proofs.all.put_items.Given as goal
 
 abbrev pub invariant-loop-i : goal.invariant-loop-i
 invariant-loop-i l =
-    (l.i ≤ l.count) × (l.j ≤ l.edits) × (length l.join ≡ length l.initial.join) × (length l.table ≡ length l.initial.table) × (length l.room ≡ length l.initial.room) × Rooms l.join l.table l.room
+    (l.j ≤ l.edits) × Rooms l.join l.table l.room
     × AllAble l.cell l.update (places_from l.work l.end l.count l.edits l.i l.j) × Told l.same (AllSame l.cell l.update (places_from l.work l.end l.count l.edits l.i l.j))
     × Going l.initial.out l.place (written_by 3 (objects_in l.cell l.update l.work l.end l.count l.edits)) l.out l.next
     (written_by (l.i + 3) (objects_from l.cell l.update l.work l.end l.count l.edits l.i l.j))
-
-abbrev pub decreases-loop-i : goal.decreases-loop-i
-decreases-loop-i l = l.count - l.i

@@ -4,7 +4,7 @@ use Rattle.std.proofs.Common.{rules}
 use Rattle.resultcounts.proofs.tally.add_record.Goals as goal
 
 pub objl_of-requires : goal.objl_of-requires
-objl_of-requires c = (search rules, search rules, search (rules, ranked_feature))
+objl_of-requires c = (search rules, search (rules, ranked_feature))
 
 pub returns-then-rank-eq3 : goal.returns-then-rank-eq3
 returns-then-rank-eq3 c = search (rules, with_feature_lem)

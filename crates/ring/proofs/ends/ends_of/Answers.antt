@@ -7,9 +7,6 @@ use Rattle.ring.proofs.ends.ends_of.Goals as goal
 pub loop-from-init : goal.loop-from-init
 loop-from-init c = (search (rules, begin_in), search (rules, through_begin), search (rules, through_begin), omega arith, omega arith)
 
-pub returns-in_default : goal.returns-in_default
-returns-in_default c = search (rules, ends_both, through_done)
-
 pub slice_bounds-node_step-count : goal.slice_bounds-node_step-count
 slice_bounds-node_step-count c = search (rules, next_up)
 
@@ -22,14 +19,14 @@ slice_bounds-node_step-end c = search (rules, next_within)
 pub node_step-first-requires : goal.node_step-first-requires
 node_step-first-requires c = search (rules, next_bytes, vrpt_fixed)
 
-pub slice_bounds-node_step-count-in-loop-from : goal.slice_bounds-node_step-count-in-loop-from
-slice_bounds-node_step-count-in-loop-from c = search (rules, next_up)
+pub slice_bounds-node_step-count-in-Some : goal.slice_bounds-node_step-count-in-Some
+slice_bounds-node_step-count-in-Some c = search (rules, next_up)
 
-pub slice_bounds-node_step-start-in-loop-from : goal.slice_bounds-node_step-start-in-loop-from
-slice_bounds-node_step-start-in-loop-from c = search (rules, next_up)
+pub slice_bounds-node_step-start-in-Some : goal.slice_bounds-node_step-start-in-Some
+slice_bounds-node_step-start-in-Some c = search (rules, next_up)
 
-pub slice_bounds-node_step-end-in-loop-from : goal.slice_bounds-node_step-end-in-loop-from
-slice_bounds-node_step-end-in-loop-from c = search (rules, next_within)
+pub slice_bounds-node_step-end-in-Some : goal.slice_bounds-node_step-end-in-Some
+slice_bounds-node_step-end-in-Some c = search (rules, next_within)
 
 pub node_step-last-requires : goal.node_step-last-requires
 node_step-last-requires c = search (rules, next_bytes, vrpt_fixed)
@@ -39,3 +36,6 @@ loop-from-smaller c = search (rules, next_less)
 
 pub loop-from-preserved : goal.loop-from-preserved
 loop-from-preserved c = (search (rules, next_in), search (rules, through_on), search (rules, through_on), search rules, search rules)
+
+pub returns : goal.returns
+returns c = search (rules, ends_both, through_done)

@@ -8,8 +8,10 @@ use Rattle.ring.specs.Ring.{node_step}
 use Rattle.ring.proofs.ends.ends_of.Given as goal
 
 abbrev pub invariant-loop-from : goal.invariant-loop-from
-invariant-loop-from l = CursorIn l.s l.at VRPT l.c × (through (node_step 1) 0 (entries_at l.s l.at VRPT) ≡ through (node_step 1) l.first (left l.s l.at VRPT l.c))
-    × (through (node_step 2) 0 (entries_at l.s l.at VRPT) ≡ through (node_step 2) l.last (left l.s l.at VRPT l.c)) × (l.first < 4294967296) × (l.last < 4294967296)
+invariant-loop-from l = CursorIn l.r.file.now l.r.at VRPT l.c × (through (node_step 1) 0 (entries_at l.r.file.now l.r.at VRPT)
+    ≡ through (node_step 1) l.first (left l.r.file.now l.r.at VRPT l.c))
+    × (through (node_step 2) 0 (entries_at l.r.file.now l.r.at VRPT) ≡ through (node_step 2) l.last (left l.r.file.now l.r.at VRPT l.c)) × (l.first < 4294967296)
+    × (l.last < 4294967296)
 
 abbrev pub decreases-loop-from : goal.decreases-loop-from
-decreases-loop-from l = length (left l.s l.at VRPT l.c)
+decreases-loop-from l = length (left l.r.file.now l.r.at VRPT l.c)

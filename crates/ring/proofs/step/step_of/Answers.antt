@@ -3,8 +3,8 @@ use Rattle.ring.proofs.StepLaws.{step_missing, step_back, step_forth}
 use Rattle.std.proofs.Common.{rules}
 use Rattle.ring.proofs.step.step_of.Goals as goal
 
-pub returns-in_default : goal.returns-in_default
-returns-in_default c = search (rules, step_missing)
+pub returns-in_err-i : goal.returns-in_err-i
+returns-in_err-i c = search (rules, step_missing)
 
 pub returns-then-e-eq2 : goal.returns-then-e-eq2
 returns-then-e-eq2 c = search (rules, step_back)

@@ -7,9 +7,6 @@ use Rattle.shape.proofs.feature.spatials_good.Goals as goal
 pub loop-from-init : goal.loop-from-init
 loop-from-init c = (search (rules, begin_in), search (rules, all_begin))
 
-pub returns-in_default : goal.returns-in_default
-returns-in_default c = search (rules, parts_done)
-
 pub slice_bounds-part_spatials-count : goal.slice_bounds-part_spatials-count
 slice_bounds-part_spatials-count c = search (rules, part_up)
 
@@ -27,3 +24,6 @@ loop-from-smaller c = search (rules, part_less)
 
 pub loop-from-preserved : goal.loop-from-preserved
 loop-from-preserved c = (search (rules, part_in), search (rules, parts_on, bare_told, fspt_fixed, fspt_bare))
+
+pub returns : goal.returns
+returns c = search (rules, parts_done)

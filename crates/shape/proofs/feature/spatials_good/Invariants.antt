@@ -8,7 +8,8 @@ use Rattle.table.specs.Table.{FSPT}
 use Rattle.shape.proofs.feature.spatials_good.Given as goal
 
 abbrev pub invariant-loop-from : goal.invariant-loop-from
-invariant-loop-from l = CursorIn l.s l.at FSPT l.c × (all_of (spatial_good l.prim) (entries_at l.s l.at FSPT) ≡ all_of (spatial_good l.prim) (left l.s l.at FSPT l.c))
+invariant-loop-from l = CursorIn l.r.file.now l.r.at FSPT l.c × (all_of (spatial_good l.prim) (entries_at l.r.file.now l.r.at FSPT)
+    ≡ all_of (spatial_good l.prim) (left l.r.file.now l.r.at FSPT l.c))
 
 abbrev pub decreases-loop-from : goal.decreases-loop-from
-decreases-loop-from l = length (left l.s l.at FSPT l.c)
+decreases-loop-from l = length (left l.r.file.now l.r.at FSPT l.c)

@@ -13,12 +13,12 @@ overflow_mul-n-then-work-n c = omega (arith, few c.requires)
 pub returns-then-work-n : goal.returns-then-work-n
 returns-then-work-n c = search (rules, alone_work)
 
-pub returns-then-code-ne0 : goal.returns-then-code-ne0
-returns-then-code-ne0 c = search (rules, alone_filed)
+pub returns-in-Err : goal.returns-in-Err
+returns-in-Err c = search (rules, alone_filed)
 
 pub cell_sight-requires : goal.cell_sight-requires
 cell_sight-requires c =
-    alone_listed _ _ _ _ c.cell_fault-r.ensures.value (search rules) c.requires (search rules) (c.cell_fault-r.ensures.held_in (search rules))
+    alone_listed _ _ _ c.cell_fault.ensures.value c.in_default.is c.requires (search rules) (c.cell_fault.ensures.held_in c.in_default.is)
 
 pub returns : goal.returns
 returns c = search (rules, alone_on)

@@ -8,13 +8,10 @@ pub returns-then-update-eq0 : goal.returns-then-update-eq0
 returns-then-update-eq0 c = search (rules, update_none)
 
 pub pair-requires : goal.pair-requires
-pair-requires c =
-    let front = c.opened-front.ensures in
-    let short = c.requires in
-    (short, counted 2 _ _ _ front (search rules))
+pair-requires c = (c.requires, counted 2 _ _ _ c.opened.ensures (search rules))
 
-pub returns-in-Refused : goal.returns-in-Refused
-returns-in-Refused c = search (rules, update_refused)
+pub returns-in_err-m : goal.returns-in_err-m
+returns-in_err-m c = search (rules, update_refused)
 
-pub returns-in-Count : goal.returns-in-Count
-returns-in-Count c = search (rules, update_counted)
+pub returns : goal.returns
+returns c = search (rules, update_counted)

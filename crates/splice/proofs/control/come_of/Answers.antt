@@ -2,10 +2,10 @@ use Rattle.octets.proofs.Tests.{tests}
 use Rattle.edits.specs.Control.{come}
 use Rattle.splice.proofs.control.come_of.Goals as goal
 
-pub returns-then-instruction-eq2 : goal.returns-then-instruction-eq2
+pub returns-then-c-eq2 : goal.returns-then-c-eq2
 unfolding come
-returns-then-instruction-eq2 c = search tests
+returns-then-c-eq2 c = search tests
 
-pub returns : goal.returns
+pub returns-else-c-eq2 : goal.returns-else-c-eq2
 unfolding come
-returns c = search tests
+returns-else-c-eq2 c = search tests

@@ -3,10 +3,10 @@ use Rattle.octets.proofs.Tests.{tests}
 use Rattle.edits.specs.Control.{gone}
 use Rattle.splice.proofs.control.gone_of.Goals as goal
 
-pub returns-then-instruction-eq1 : goal.returns-then-instruction-eq1
+pub returns-then-c-eq1 : goal.returns-then-c-eq1
 unfolding gone
-returns-then-instruction-eq1 c = (search tests, search rules)
+returns-then-c-eq1 c = (search tests, search rules)
 
-pub returns : goal.returns
+pub returns-else-c-eq1 : goal.returns-else-c-eq1
 unfolding gone
-returns c = (search tests, search rules)
+returns-else-c-eq1 c = (search tests, search rules)

@@ -6,11 +6,11 @@ use Rattle.splice.proofs.list.put_spliced.Goals as goal
 pub returns-then-not-list_allowed : goal.returns-then-not-list_allowed
 returns-then-not-list_allowed c = search (rules, spliced_no)
 
-pub returns-then-not-there : goal.returns-then-not-there
-returns-then-not-there c = search (rules, spliced_without)
-
 pub put_edited-requires : goal.put_edited-requires
 put_edited-requires c = (search rules, search rules, search (rules, spliced_allowed), search rules)
 
-pub returns : goal.returns
-returns c = search (rules, spliced_with)
+pub returns-in-Some : goal.returns-in-Some
+returns-in-Some c = search (rules, spliced_with)
+
+pub returns-in-None : goal.returns-in-None
+returns-in-None c = search (rules, spliced_without)

@@ -4,7 +4,7 @@ use Rattle.std.proofs.Common.{rules}
 use Rattle.topology.proofs.note.foid_note.Goals as goal
 
 pub foid_of-requires : goal.foid_of-requires
-foid_of-requires c = (search rules, search rules, search (rules, feature_told))
+foid_of-requires c = (search rules, search (rules, feature_told))
 
 pub foid_behind-requires : goal.foid_behind-requires
 foid_behind-requires c = search (rules, foid_room)

@@ -1,7 +1,29 @@
--- Every call answers its part of the definition; the whole is their composition.
+-- By the rules in turn: the first that is broken is told.
+use Rattle.std.proofs.Common.{rules}
+use Rattle.values.specs.Fault.{told, first}
 use Rattle.values.specs.Frid.{frid_fault}
 use Rattle.values.proofs.frid.frid_fault.Goals as goal
 
+pub returns-in_err-holds : goal.returns-in_err-holds
+unfolding frid_fault told first
+returns-in_err-holds c = search rules
+
+pub returns-in_err-holds-2 : goal.returns-in_err-holds-2
+unfolding frid_fault told first
+returns-in_err-holds-2 c = search rules
+
+pub returns-in_err-holds-3 : goal.returns-in_err-holds-3
+unfolding frid_fault told first
+returns-in_err-holds-3 c = search rules
+
+pub returns-in_err-holds-4 : goal.returns-in_err-holds-4
+unfolding frid_fault told first
+returns-in_err-holds-4 c = search rules
+
+pub returns-in_err-holds-5 : goal.returns-in_err-holds-5
+unfolding frid_fault told first
+returns-in_err-holds-5 c = search rules
+
 pub returns : goal.returns
-unfolding frid_fault
-returns c = cc
+unfolding frid_fault told first
+returns c = search rules

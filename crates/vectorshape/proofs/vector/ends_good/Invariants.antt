@@ -8,7 +8,7 @@ use Rattle.table.specs.Table.{VRPT}
 use Rattle.vectorshape.proofs.vector.ends_good.Given as goal
 
 abbrev pub invariant-loop-from : goal.invariant-loop-from
-invariant-loop-from l = CursorIn l.s l.at VRPT l.c × (all_of end_good (entries_at l.s l.at VRPT) ≡ all_of end_good (left l.s l.at VRPT l.c))
+invariant-loop-from l = CursorIn l.r.file.now l.r.at VRPT l.c × (all_of end_good (entries_at l.r.file.now l.r.at VRPT) ≡ all_of end_good (left l.r.file.now l.r.at VRPT l.c))
 
 abbrev pub decreases-loop-from : goal.decreases-loop-from
-decreases-loop-from l = length (left l.s l.at VRPT l.c)
+decreases-loop-from l = length (left l.r.file.now l.r.at VRPT l.c)

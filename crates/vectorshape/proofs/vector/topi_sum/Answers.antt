@@ -7,9 +7,6 @@ use Rattle.vectorshape.proofs.vector.topi_sum.Goals as goal
 pub loop-from-init : goal.loop-from-init
 loop-from-init c = (search (rules, begin_in), search (rules, through_begin), search (rules, topi_start))
 
-pub returns-in_default : goal.returns-in_default
-returns-in_default c = search (rules, through_done)
-
 pub slice_bounds-topi_of-count : goal.slice_bounds-topi_of-count
 slice_bounds-topi_of-count c = search (rules, next_up)
 
@@ -27,3 +24,6 @@ loop-from-smaller c = search (rules, next_less)
 
 pub loop-from-preserved : goal.loop-from-preserved
 loop-from-preserved c = (search (rules, next_in), search (rules, topi_on), search (rules, topi_few))
+
+pub returns : goal.returns
+returns c = search (rules, through_done)

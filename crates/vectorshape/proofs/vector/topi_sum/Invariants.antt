@@ -8,8 +8,9 @@ use Rattle.table.specs.Table.{VRPT}
 use Rattle.vectorshape.proofs.vector.topi_sum.Given as goal
 
 abbrev pub invariant-loop-from : goal.invariant-loop-from
-invariant-loop-from l = CursorIn l.s l.at VRPT l.c × (through add_topi 0 (entries_at l.s l.at VRPT) ≡ through add_topi l.sum (left l.s l.at VRPT l.c))
-    × (l.sum + 255 * length (left l.s l.at VRPT l.c) ≤ 510)
+invariant-loop-from l = CursorIn l.r.file.now l.r.at VRPT l.c × (through add_topi 0 (entries_at l.r.file.now l.r.at VRPT)
+    ≡ through add_topi l.sum (left l.r.file.now l.r.at VRPT l.c))
+    × (l.sum + 255 * length (left l.r.file.now l.r.at VRPT l.c) ≤ 510)
 
 abbrev pub decreases-loop-from : goal.decreases-loop-from
-decreases-loop-from l = length (left l.s l.at VRPT l.c)
+decreases-loop-from l = length (left l.r.file.now l.r.at VRPT l.c)

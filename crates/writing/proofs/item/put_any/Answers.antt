@@ -5,7 +5,7 @@ use Rattle.writing.proofs.PlainLaws.{plain_few, plain_ended, plain_least, plain_
 use Rattle.writing.proofs.item.put_any.Goals as goal
 
 pub rows_of-rows-requires : goal.rows_of-rows-requires
-rows_of-rows-requires c = (search rules, search (rules, plain_few))
+rows_of-rows-requires c = search (rules, plain_few)
 
 pub body_of-body-requires : goal.body_of-body-requires
 body_of-body-requires c = search (rules, plain_ended)

@@ -5,7 +5,7 @@ use Rattle.writing.proofs.PlainLaws.{plain_few, plain_ended, plain_sized}
 use Rattle.writing.proofs.item.size_any.Goals as goal
 
 pub rows_of-rows-requires : goal.rows_of-rows-requires
-rows_of-rows-requires c = (search rules, search (rules, plain_few))
+rows_of-rows-requires c = search (rules, plain_few)
 
 pub base_of-requires : goal.base_of-requires
 base_of-requires c = search (rules, plain_few)

@@ -7,7 +7,7 @@ pub put_lead-a-requires : goal.put_lead-a-requires
 put_lead-a-requires c = (search rules, search (rules, fields_lead))
 
 pub put_lists-requires : goal.put_lists-requires
-put_lists-requires c = (search rules, search rules, search rules, search (rules, fields_rest))
+put_lists-requires c = (search rules, search rules, search (rules, fields_rest))
 
 pub returns : goal.returns
 returns c = search (rules, fields_put)

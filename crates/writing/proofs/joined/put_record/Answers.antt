@@ -7,7 +7,7 @@ pub put_head-a-requires : goal.put_head-a-requires
 put_head-a-requires c = (omega arith, (omega arith, search (rules, joined_head)))
 
 pub put_fields-requires : goal.put_fields-requires
-put_fields-requires c = (search rules, search rules, search rules, search (rules, lead_within), search (rules, joined_room))
+put_fields-requires c = (search rules, search rules, search (rules, lead_within), search (rules, joined_room))
 
 pub returns : goal.returns
 returns c = search (rules, joined_put)

@@ -5,7 +5,7 @@ use Rattle.writing.proofs.CopyLaws.{feature_led, feature_tagged, feature_joined,
 use Rattle.writing.proofs.joined.size_joined.Goals as goal
 
 pub size_record-requires : goal.size_record-requires
-size_record-requires c = (search rules, search rules, search (rules, feature_led), search (rules, feature_tagged))
+size_record-requires c = (search rules, search (rules, feature_led), search (rules, feature_tagged))
 
 pub returns-then-rcnm_of-eq100 : goal.returns-then-rcnm_of-eq100
 returns-then-rcnm_of-eq100 c =
@@ -13,7 +13,7 @@ returns-then-rcnm_of-eq100 c =
     search (rules, item_sized, feature_joined)
 
 pub size_record-requires-2 : goal.size_record-requires-2
-size_record-requires-2 c = (search rules, search rules, search (rules, vector_led), search (rules, vector_tagged))
+size_record-requires-2 c = (search rules, search (rules, vector_led), search (rules, vector_tagged))
 
 pub returns : goal.returns
 returns c =
