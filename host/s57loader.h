@@ -1,6 +1,6 @@
 /* The chart loader, for C and C++. Link with the archive of the crate `s57`, target/staticlib/libs57.a, which `bench/archives.sh s57` makes: x86-64
-   code, and of the C library it wants memcpy, memmove and memset alone. judge.c beside this file is a host of one page; unit.c is one that keeps a
-   chart up to date.
+   code, and of the C library it wants memcpy and memset alone. judge.c beside this file is a host of one page; unit.c is one that keeps a chart up to
+   date.
 
    It allocates nothing, keeps no state between calls, and opens no file: it works in the bytes that the host lends it. So it may be called from
    several threads at once, each with areas of its own; several may judge the same cell's bytes. S57_STACK_JUDGE, S57_STACK_ADMIT and S57_STACK_APPLY say
@@ -39,7 +39,7 @@ extern "C" {
 #define S57_WORK_BOTH (2 * S57_WORK_MOST)
 
 /* What a call takes of the stack at most, below the function that makes it, whatever the files are; nearly all of it are areas of fixed size, in some of which
-   s57_apply builds each record that the update changes. It is what the archive's code comes to (host/stack.sh says it), 8 KB for memcpy, memmove and memset, which are
+   s57_apply builds each record that the update changes. It is what the archive's code comes to (host/stack.sh says it), 8 KB for memcpy and memset, which are
    the C library's and may be looked for at their first call, and what is missing to whole pages of 4 KB. A thread's stack must have room besides for the
    host's own functions above the call, and for what the thread library keeps there, which are a few KB: one of S57_STACK_APPLY + PTHREAD_STACK_MIN bytes
    suffices where the thread's function does little else. bench/tests/stack.c makes each call with exactly this much. */

@@ -1,6 +1,6 @@
 #!/bin/sh
 # What each call of the loader takes of the stack at most, whatever the files are: read off the archive's code, which has no calls through pointers. A line a
-# call: its name, the bytes, and the functions on the deepest way with the bytes of each. memcpy, memmove and memset, the C library's, are counted as nothing.
+# call: its name, the bytes, and the functions on the deepest way with the bytes of each. memcpy and memset, the C library's, are counted as nothing.
 # usage: host/stack.sh [ARCHIVE]   default target/staticlib/libs57.a at the repository's top
 # The header's S57_STACK_.. stand on these numbers; host/tests.sh holds them to it. Ends with 1 where the code has something that can't be counted.
 set -eu
@@ -39,7 +39,7 @@ function calls(name) { called[now, ++count[now]] = name }
 function deepest(name, i, below, most) {
     if (name in known)
         return known[name]
-    if (name ~ /^mem(cpy|move|set)$/)
+    if (name ~ /^mem(cpy|set)$/)
         return 0
     now = name
     if (!(name in frame) || open[name])

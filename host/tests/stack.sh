@@ -3,7 +3,7 @@
 # take of a stack that is just as long, bench/tests/stack.c shows. `copies` is host/tests.sh's temporary folder, `cc` bench/compiler.sh's compiler.
 # shellcheck disable=SC2154
 
-library=8192 # for memcpy, memmove and memset
+library=8192 # for memcpy and memset
 
 # ---- the header
 

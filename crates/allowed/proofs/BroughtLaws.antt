@@ -77,7 +77,7 @@ module _ (s : List ℕ) (at k fields : ℕ) (all : fields ≡ count_at s at) (ea
   without_all : list_at s at k ≡ []
   without_all = let so = without fields (omega arith) in so.left ∙ join_end s at k fields (omega arith)
 
-lacks_no : (s : List ℕ) (at k : ℕ) → LacksTold s at k false
+pub lacks_no : (s : List ℕ) (at k : ℕ) → LacksTold s at k false
 lacks_no s at k = record { is = λ e. absurd (let z : ◌≡◌ {A = ℕ} 0 1 = cc in omega arith) }
 
 pub lacks_so : (s : List ℕ) (at i j k fields : ℕ) (r : Bool) (No : Type 0) → fields ≡ count_at s at

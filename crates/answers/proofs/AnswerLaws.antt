@@ -31,6 +31,9 @@ filed_told file r z = sym (filed_code file r) ∙ z
 pub filed_tested : (file : ℕ) (r : Refusal) → r.code ≡ 0 → (filed file r).code ≡ 0
 filed_tested file r none = filed_code file r ∙ none
 
+pub filed_kept : (file : ℕ) (r : Refusal) (a : Answer) → (r.code ≡ 0 → ⊥) → a ≡ filed file r → a.code ≡ 0 → ⊥
+filed_kept file r a ne e z = ne (filed_told file r (ap (λ (x : Answer). x.code) (sym e) ∙ z))
+
 -- ---- an answer with a code isn't 0
 pub told_code : (a b : Answer) → a ≡ b → a.code ≡ b.code
 told_code a b is = ap (λ (x : Answer). x.code) is

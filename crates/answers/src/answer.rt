@@ -1,6 +1,6 @@
 // What a call answers.
 ghost use Rattle.std.specs.Prelude.{◌≡◌};
-ghost use Rattle.answers.specs.Answer.{answer, answer_of};
+ghost use Rattle.answers.specs.Answer.{answer, answer_of, filed};
 
 use crate::refusal::Refusal;
 
@@ -31,6 +31,17 @@ pub fn of_refusal(file: u32, r: Refusal) -> Answer
     ensures { result ≡ answer r.code file r.index 0 r.offset }
 {
     answered(r.code, file, r.index, 0, r.offset)
+}
+
+// The same of a refusal whose code may be 0: no refusal has neither file nor record.
+pub fn filed(file: u32, r: Refusal) -> Answer
+    ensures { result ≡ filed file r }
+{
+    let code = r.code;
+    if code == 0 {
+        return answered(0, 0, 0, 0, 0);
+    }
+    of_refusal(file, r)
 }
 
 // The same of a stage; one that refuses nothing has neither file nor record.

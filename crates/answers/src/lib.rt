@@ -12,7 +12,7 @@ pub use answer::{Answer, answered};
 pub use refusal::Refusal;
 
 // A refusal as the answer for its file; and a stage's, where nothing refused has neither file nor record.
-pub use answer::{answer_of, of_refusal};
+pub use answer::{answer_of, filed, of_refusal};
 pub use refusal::refuse;
 
 // The answer into an area of 16 bytes; any other stays as it is.

@@ -1,26 +1,49 @@
 -- Laws of words copied behind themselves. Assumes nothing.
-use Prim.Native.Nat.{ℕ, ◌+◌, ◌-◌, ◌*◌, ◌≤◌}
-use mathlib.Core.List.{List, ◌++◌}
-use mathlib.Core.Path.{◌≡◌, sym, ap, ◌∙◌}
+use Prim.Native.Nat.{ℕ, ◌+◌, ◌-◌, ◌*◌, ◌^◌, ◌≤◌, ◌<◌}
+use mathlib.Core.List.{List, [], ◌∷◌}
+use mathlib.Core.Path.{◌≡◌, refl, sym, ap, ◌∙◌}
 use native.Mathlib.Nat.{zero-add}
 use native.Mathlib.Omega.{arith}
-use lib.ListN.{length, get_or, take, drop}
-use lib.Seq.{take-append_seam, drop-append_seam}
-use Rattle.words.specs.Words.{words_in}
-use Rattle.words.proofs.WordsLaws.{part_words, words_at, words_same}
+use lib.ListN.{length, get_or}
+use Rattle.words.specs.Words.{word_at, words_in, put_at}
+use Rattle.words.proofs.WordsLaws.{words_at, words_same, words_split, words_grow, words_put_behind, put_length}
 use Rattle.bothonce.specs.Both.{Raised}
 
-pub raised : {before front copied : List ℕ} (rest : List ℕ) (n : ℕ) → length front ≡ 8 * n → front ≡ take (8 * n) before → copied ≡ front
-    → Raised before n (front ++ (copied ++ rest))
-raised {before} {front} {copied} rest n long is same =
-    let now : List ℕ = front ++ (copied ++ rest) in
-    let size : 8 * (n + n) - 8 * n ≡ length copied = omega (arith, ap length same, long) in
-    let behind : take (8 * (n + n) - 8 * n) (drop (8 * n) now) ≡ front =
-    ap (λ (k : ℕ). take k (drop (8 * n) now)) size ∙ ap (λ (k : ℕ). take (length copied) (drop k now)) (sym long)
-    ∙ ap (take (length copied)) (drop-append_seam front (copied ++ rest)) ∙ take-append_seam copied rest ∙ same in
-    let first : 8 * (0 + n) - 8 * 0 ≡ 8 * n = omega arith in
-    let ahead : take (8 * (0 + n) - 8 * 0) (drop (8 * 0) before) ≡ front = ap (λ (k : ℕ). take k before) first ∙ sym is in
-    record { words = sym (part_words now n n) ∙ ap (λ (l : List ℕ). words_in l 0 n) (behind ∙ sym ahead) ∙ part_words before 0 n }
+-- i of n words are copied, and those that are copied stay
+pub record Raising (before : List ℕ) (n i : ℕ) (now : List ℕ) : Type 0 where
+  pub few : i ≤ n
+  pub size : length now ≡ length before
+  pub copied : words_in now n i ≡ words_in before 0 i
+  pub kept : words_in now 0 n ≡ words_in before 0 n
+
+pub raising_start : (before : List ℕ) (n : ℕ) → Raising before n 0 before
+unfolding words_in
+raising_start before n = record { few = omega arith; size = refl; copied = refl; kept = refl }
+
+one_word : (s : List ℕ) (i : ℕ) → words_in s i 1 ≡ word_at s i ∷ []
+unfolding words_in
+one_word s i = refl
+
+module _ {before now : List ℕ} {n i : ℕ} (so : Raising before n i now) (more : i < n) where
+  same_word : word_at now i ≡ word_at before i
+  same_word =
+      sym (rw (zero-add i) at (words_at now 0 n i more)) ∙ ap (λ (l : List ℕ). get_or l i 0) so.kept ∙ rw (zero-add i) at (words_at before 0 n i more)
+
+  pub raising_on : (w : ℕ) (next : List ℕ) → 8 * (n + n) ≤ length before → w ≡ word_at now i → w < 2 ^ 64 → next ≡ put_at now (n + i) w → Raising before n (i + 1) next
+  raising_on w next room is small put =
+      let size = so.size in
+      let word : w ≡ word_at before i = is ∙ same_word in
+      record {
+        few = omega arith;
+        size = ap length put ∙ put_length now (n + i) w ∙ size;
+        copied = rw put
+            (words_grow now n i w (omega arith) small ∙ rw (so.copied, word)
+            (sym (rw (zero-add i, one_word before i) at (words_split before 0 i 1))));
+        kept = rw put (words_put_behind now (n + i) 0 n w (omega arith) (omega arith) ∙ so.kept);
+      }
+
+pub raising_end : {before now : List ℕ} {n i : ℕ} → Raising before n i now → n ≤ i → Raised before n now
+raising_end {before} {now} {n} {i} so all = let few = so.few in let e : i ≡ n = omega arith in record { words = rw e at so.copied }
 
 -- a part of what was copied
 pub raised_part : {before after : List ℕ} {n : ℕ} (i m : ℕ) → Raised before n after → i + m ≤ n → words_in after (n + i) m ≡ words_in before i m

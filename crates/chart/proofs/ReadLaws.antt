@@ -129,13 +129,20 @@ module _ {update : Bool} {marks s : List ℕ} {whole : Refusal} {n : ℕ} {t : L
     }
 
 module _ {update : Bool} {marks s : List ℕ} {whole : Refusal} {n : ℕ} {t : List ℕ} {k at : ℕ} {st : State} (so : Reading update marks s whole n t k at st) (low : n ≤ k) where
-  pub reading_short : (r : Refusal) → k ≤ n → st.stage < 2 → r ≡ refusal 5 n (length s) → Err r ≡ outcome whole
+  pub reading_short : (r : Refusal) → st.stage < 2 → r ≡ refusal 5 k (length s) → r ≡ whole
   unfolding records_fault
-  reading_short r high h q = let z : n - k ≡ 0 = omega arith in let e : n ≡ k = omega arith in made_told q (rw e at q ∙ sym (so.is ∙ rw (z, lt-ltb _ _ h)))
+  reading_short r h q = let z : n - k ≡ 0 = omega arith in q ∙ sym (so.is ∙ rw (z, lt-ltb _ _ h))
 
-  pub reading_end : 2 ≤ st.stage → Ok tt ≡ outcome whole
+  pub reading_end : (r : Refusal) → 2 ≤ st.stage → r ≡ refusal 0 0 0 → r ≡ whole
   unfolding records_fault
-  reading_end h = let z : n - k ≡ 0 = omega arith in fine_told whole (ap (λ (q : Refusal). q.code) so.is ∙ rw (z, le-ltb _ _ h) refl)
+  reading_end r h q = let z : n - k ≡ 0 = omega arith in q ∙ sym (so.is ∙ rw (z, le-ltb _ _ h))
+
+  -- the same as the code tells it, behind a loop that ends at n
+  pub told_short : (r : Refusal) → k ≤ n → st.stage < 2 → r ≡ refusal 5 n (length s) → Err r ≡ outcome whole
+  told_short r high h q = let e : n ≡ k = omega arith in made_told q (reading_short r h (rw e at q))
+
+  pub told_end : 2 ≤ st.stage → Ok tt ≡ outcome whole
+  told_end h = fine_told whole (ap (λ (q : Refusal). q.code) (sym (reading_end (refusal 0 0 0) h refl)))
 
 -- ---- what Layout gives
 pub full_of : (update : Bool) (stage : ℕ) (marks s : List ℕ) (at : ℕ) → RecordIn s at → layout_fault update stage marks s at ≡ 0 → Full s at

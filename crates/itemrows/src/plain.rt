@@ -24,7 +24,7 @@ fn taken(r: &Record, from: usize, tags: [u32; 4]) -> usize
 {
     let n = r.head.count;
     let mut j = from;
-    for tag in tags {
+    for &tag in &tags {
         if n <= j {
             return j;
         }

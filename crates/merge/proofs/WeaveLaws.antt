@@ -4,12 +4,10 @@ use mathlib.Core.List.{List, [], ◌∷◌, ◌++◌, append_assoc, append-nil}
 use mathlib.Core.Path.{◌≡◌, refl, sym, ap, ◌∙◌}
 use native.Mathlib.Nat.{add-zero, zero-add, sub-zero, suc-add}
 use native.Mathlib.Omega.{arith}
-use lib.ListN.{length, get_or, take, drop, length-append, length-take, length-drop}
-use lib.Seq.{drop-drop, take-take, take_at, drop_at, length-take-le, take-append_seam}
-use borrow.Rule.Slice.PartMut.{mid_of, post_of, put_mid, mid_len, same_len_mid}
-use Rattle.std.proofs.lemmas.List.{drop-take}
+use lib.ListN.{length, take, drop}
+use lib.Seq.{drop-drop, take-take}
 use Rattle.words.specs.Words.{word_at, words_in, put_at}
-use Rattle.words.proofs.WordsLaws.{part_words, words_length, words_at, words_back_lem, words_grow, put_length, put_back, put_same, put_other, words_put_behind}
+use Rattle.words.proofs.WordsLaws.{words_length, words_at, words_back_lem, words_grow, put_length, put_front, put_back, word_front, put_same, put_other, words_put_behind}
 use Rattle.items.specs.Word.{name_of}
 use Rattle.merge.specs.Updated.{updated}
 use Rattle.names.specs.Premises.{Strict}
@@ -211,67 +209,34 @@ weaving_done {work} {h} {n} {m} {i} {j} {count} {edits} {a} so high =
     }
 
 -- ---- the modifies copied to the end
-back_moved : (s t : List ℕ) (d e n : ℕ) → n ≤ e → ((k : ℕ) → e ≤ k + n → k < e → word_at s (d + k) ≡ word_at t k) → words_back s (d + e) n ≡ words_back t e n
+pub record Settling (work : List ℕ) (h i : ℕ) (next : List ℕ) : Type 0 where
+  pub changes : words_back next (2 * h) i ≡ words_back work h i
+  pub front : take (8 * h) next ≡ take (8 * h) work
+  pub size : length next ≡ length work
+
+pub settling_start : (work : List ℕ) (h : ℕ) → Settling work h 0 work
 unfolding words_back
-back_moved s t d e zero h same = refl
-back_moved s t d e (suc n) h same =
-    let last : d + e - 1 ≡ d + (e - 1) = omega arith in
-    rw (last, same (e - 1) (omega arith) (omega arith), back_moved s t d (e - 1) n (omega arith) (λ k low high. same k (omega arith) (omega arith)))
+settling_start work h = record { changes = refl; front = refl; size = refl }
 
-module _ (work front behind copied : List ℕ) (h edits : ℕ) (few : edits ≤ h) (room : 16 * h ≤ length work) (long : length front ≡ 8 * h) (is : front ≡ take (8 * h) work)
-    (more : length behind + 8 * h ≡ length work) (same : copied ≡ take (length front - 8 * (h - edits)) (drop (8 * (h - edits)) front)) where
-  next : List ℕ
-  next = front ++ put_mid (8 * (h - edits)) (8 * h - 8 * (h - edits)) behind copied
+pub settling_on : {work : List ℕ} {h i : ℕ} {a : List ℕ} (w edits : ℕ) (b : List ℕ) → Settling work h i a → 16 * h ≤ length work → i < edits → edits ≤ h
+    → w ≡ word_at a (h - 1 - i) → w < 2 ^ 64
+    → b ≡ put_at a (2 * h - 1 - i) w → Settling work h (i + 1) b
+settling_on {work} {h} {i} {a} w edits b so room more few is small put =
+    let size = so.size in
+    let fit : 8 * (2 * h - 1 - i) + 8 ≤ length a = omega arith in
+    let here : w ≡ word_at work (h - 1 - i) = is ∙ word_front a work h (h - 1 - i) so.front (omega arith) in
+    let before : take (8 * h) (put_at a (2 * h - 1 - i) w) ≡ take (8 * h) a =
+    sym (take-take (8 * h) (8 * (2 * h - 1 - i)) (put_at a (2 * h - 1 - i) w) (omega arith))
+    ∙ ap (take (8 * h)) (put_front a (2 * h - 1 - i) w fit) ∙ take-take (8 * h) (8 * (2 * h - 1 - i)) a (omega arith) in
+    let grown : words_back (put_at a (2 * h - 1 - i) w) (2 * h) (i + 1) ≡ words_back a (2 * h) i ++ (w ∷ []) =
+    back_some a (2 * h) i w 1 (omega arith) (omega arith) (omega arith) small in
+    record {
+      changes = rw put (grown ∙ rw (so.changes, here) (sym (back_last work h i (omega arith))));
+      front = rw put (before ∙ so.front);
+      size = rw put (put_length a (2 * h - 1 - i) w ∙ so.size);
+    }
 
-  copied_long : length copied ≡ 8 * edits
-  copied_long = rw same (rw (length-take, length-drop) (omega arith))
-
-  -- the words that are copied, at both places
-  ahead : take (8 * (h - edits + edits) - 8 * (h - edits)) (drop (8 * (h - edits)) work) ≡ copied
-  ahead =
-      let from = 8 * (h - edits) in
-      let whole : from + (8 * h - from) ≡ 8 * h = omega arith in
-      let count : 8 * (h - edits + edits) - from ≡ 8 * h - from = omega arith in
-      let cut : drop from front ≡ take (8 * h - from) (drop from work) =
-      ap (drop from) (is ∙ ap (λ (n : ℕ). take n work) (sym whole)) ∙ drop-take from (8 * h - from) work in
-      ap (λ (n : ℕ). take n (drop from work)) count
-      ∙ sym (same ∙ ap (λ (n : ℕ). take (n - from) (drop from front)) long ∙ ap (take (8 * h - from)) cut ∙ take-take (8 * h - from) (8 * h - from) (drop from work) (omega arith))
-
-  there : take (8 * (h + (h - edits) + edits) - 8 * (h + (h - edits))) (drop (8 * (h + (h - edits))) next) ≡ copied
-  unfolding next
-  there =
-      let from = 8 * (h - edits) in
-      let post = post_of from (8 * h - from) behind in
-      let count : 8 * (h + (h - edits) + edits) - 8 * (h + (h - edits)) ≡ length copied = omega (arith, copied_long) in
-      let place : 8 * (h + (h - edits)) ≡ 8 * h + from = omega arith in
-      let some : length (take from behind) ≡ from = length-take-le from behind (omega arith) in
-      let cut : drop (8 * (h + (h - edits))) next ≡ copied ++ post =
-      ap (λ (n : ℕ). drop n next) place ∙ sym (drop-drop from (8 * h) next)
-      ∙ ap (drop from) (drop_at front (take from behind ++ (copied ++ post)) (8 * h) long) ∙ drop_at (take from behind) (copied ++ post) from some in
-      ap (λ (n : ℕ). take n (drop (8 * (h + (h - edits))) next)) count ∙ ap (take (length copied)) cut ∙ take-append_seam copied post
-
-  words_moved : words_in next (h + (h - edits)) edits ≡ words_in work (h - edits) edits
-  words_moved =
-      sym (part_words next (h + (h - edits)) edits) ∙ ap (λ (l : List ℕ). words_in l 0 edits) (there ∙ sym ahead) ∙ part_words work (h - edits) edits
-
-  word_moved : (k : ℕ) → h ≤ k + edits → k < h → word_at next (h + k) ≡ word_at work k
-  word_moved k low high =
-      let j = k - (h - edits) in
-      let less : j < edits = omega arith in
-      let to : h + (h - edits) + j ≡ h + k = omega arith in
-      let of : h - edits + j ≡ k = omega arith in
-      ap (word_at next) (sym to) ∙ sym (words_at next (h + (h - edits)) edits j less) ∙ ap (λ (l : List ℕ). get_or l j 0) words_moved
-      ∙ words_at work (h - edits) edits j less ∙ ap (word_at work) of
-
-  pub settled : Settled work h edits (front ++ put_mid (8 * (h - edits)) (8 * h - 8 * (h - edits)) behind copied)
-  unfolding next
-  settled =
-      let two : 2 * h ≡ h + h = omega arith in
-      let mid : length (mid_of (8 * (h - edits)) (8 * h - 8 * (h - edits)) behind) ≡ 8 * h - 8 * (h - edits) = mid_len (8 * (h - edits)) (8 * h) behind (omega arith) in
-      let put : length (put_mid (8 * (h - edits)) (8 * h - 8 * (h - edits)) behind copied) ≡ length behind =
-      same_len_mid (8 * (h - edits)) (8 * h - 8 * (h - edits)) behind copied (omega (arith, copied_long)) in
-      record {
-        changes = rw two (back_moved next work h h edits few word_moved);
-        front = take_at front (put_mid (8 * (h - edits)) (8 * h - 8 * (h - edits)) behind copied) (8 * h) long ∙ is;
-        size = length-append front (put_mid (8 * (h - edits)) (8 * h - 8 * (h - edits)) behind copied) ∙ omega arith;
-      }
+pub settling_done : {work : List ℕ} {h i : ℕ} {a : List ℕ} (edits : ℕ) → Settling work h i a → i ≤ edits → edits ≤ i → Settled work h edits a
+settling_done {work} {h} {i} {a} edits so low high =
+    let e : i ≡ edits = omega arith in
+    record { changes = rw e at so.changes; front = so.front; size = so.size }

@@ -3,7 +3,7 @@ ghost use Rattle.std.specs.Prelude.{◌+◌, ◌-◌, ◌*◌, ◌≤◌, ◌<�
 ghost use Rattle.merge.specs.Area.{Halves, Weaves, SetDown, Settled};
 
 use crate::turn::{Turn, taken};
-use words::put;
+use words::{get, put};
 
 // How many words the result has, and how many of its items the update modifies.
 #[derive(Drop)]
@@ -49,8 +49,9 @@ pub fn settle(work: &mut [u8], h: usize, edits: usize)
     requires { (16 * h ≤ length work.old) × (edits ≤ h) }
     ensures { Settled work.old h edits work.new }
 {
-    let from = 8 * (h - edits);
-    let to = 8 * h;
-    let (front, behind) = work.split_at_mut(to);
-    behind[from..to].copy_from_slice(&front[from..]);
+    // Word by word, since `copy_from_slice` would want the C library's memmove.
+    for i in 0..edits {
+        let w = get(work, h - 1 - i);
+        put(work, 2 * h - 1 - i, w);
+    }
 }

@@ -1,10 +1,8 @@
 -- Laws of `Has`, `Wrote` and `Going`: what stands in a list, what a writer wrote, and a writer under way. With them no proof above
 -- sees an index of an appended list or a single store. Assumes nothing.
-use Rattle.std.proofs.Common.{◌≡◌, ℕ, suc, ◌+◌, ◌-◌, ◌<◌, ◌≤◌, List, [], ◌∷◌, ◌++◌, length, take, drop, set, sym, refl, ap, ◌∙◌, append_assoc, append-nil, add-zero, add_assoc, add-suc, suc-add, arith, length-append, length-drop, length-take-le, get_or-drop, get_or-take, take_at, get_or-append-add, ext_get_or, drop_at}
-use Rattle.std.proofs.lemmas.List.{drop-drop}
-use borrow.Rule.Slice.PartMut.{put_mid}
+use Rattle.std.proofs.Common.{◌≡◌, ℕ, suc, ◌+◌, ◌<◌, ◌≤◌, List, [], ◌∷◌, ◌++◌, length, get_or, take, drop, set, replicate, sym, refl, ap, ◌∙◌, append_assoc, append-nil, add-zero, add_assoc, add-suc, suc-add, add-one, arith, length-append, length-drop, drop_of_length-le, length-take-le, get_or-drop, drop-cons, get_or-take, take_at, get_or-append-add, ext_get_or, drop_at}
 use lib.ListN.{get_or-append}
-use lib.Seq.{sets, set_comm, length-sets, sets-eq}
+use lib.Seq.{sets, set_comm, drop-length, length-sets, sets-eq}
 use Rattle.octets.specs.Number.{byte_at}
 use Rattle.octets.specs.Area.{Has, Wrote, Going}
 
@@ -140,12 +138,17 @@ going_length g = wrote_length g.wrote
 pub going_room : {a b : List ℕ} {at p : ℕ} {all rest : List ℕ} → Going a at all b p rest → at + length all ≤ length a → p + length rest ≤ length b
 going_room {a} {b} {at} {p} {all} {rest} g h = omega (arith, going_length g, g.wrote.end, ap length g.join, length-append g.done rest)
 
--- ---- a part of an area that became src
-pub copy_all : (a src ys : List ℕ) (at : ℕ) → at + length src ≤ length a → ys ≡ src → Wrote a at src (put_mid at (at + length src - at) a ys) (at + length src)
-copy_all a src ys at fit e =
-    let n : at + length src - at ≡ length src = omega arith in
-    record {
-      is = rw (e, n, drop-drop (length src) at a) (sym (sets-eq src a at fit ∙ append_assoc (take at a) src (drop (at + length src) a)));
-      end = refl;
-      room = fit;
-    }
+-- ---- an area cleared to its end
+pub clear_all : (a b : List ℕ) (i : ℕ) → i ≡ length a → b ≡ replicate i 0 ++ drop i a → b ≡ replicate (length a) 0
+clear_all a b i e h = h ∙ rw (e, drop-length a) (append-nil (replicate (length a) 0))
+
+-- one byte more of a list that is being copied
+pub copy_more : {a b : List ℕ} {at i : ℕ} {src : List ℕ} → Going a at src b (at + i) (drop i src) → at + length src ≤ length a → i < length src
+    → Going a at src (set b (at + i) (get_or src i 0)) (at + (i + 1)) (drop (i + 1) src)
+copy_more {a} {b} {at} {i} {src} g fit more =
+    going_step (get_or src i 0 ∷ []) (drop (i + 1) src) g (rw (add-one i) (drop-cons src i 0 more))
+    (record { is = refl; end = sym (add_assoc at i 1); room = omega (arith, going_length g) })
+
+-- all bytes copied
+pub copy_all : {a b : List ℕ} {at i : ℕ} {src : List ℕ} → Going a at src b (at + i) (drop i src) → i ≡ length src → Wrote a at src b (at + length src)
+copy_all {a} {b} {at} {i} {src} g e = rw e at (going_end g (drop_of_length-le src {i = i} (omega arith)))

@@ -72,7 +72,7 @@ digits_end s at n k led fit l h small nine so =
 pub led_more : (k led b : ℕ) → led < 10 ^ k → b ≤ 57 → led * 10 + (b - 48) < 10 ^ (k + 1)
 led_more k led b small h = rw (add-one k, pow-suc 10 k) (omega arith)
 
-led_fits : (k led : ℕ) → led < 10 ^ k → k < 9 → led < 100000000
+pub led_fits : (k led : ℕ) → led < 10 ^ k → k < 9 → led < 100000000
 led_fits k led small h = let top : 10 ^ k ≤ 10 ^ 8 = pow-le-pow_right {n = 10} (omega arith) {i = k} {j = 8} (omega arith) in omega arith
 
 pub turn_small : (s : List ℕ) (at n k led b : ℕ) (fit : at + n ≤ length s) (more : k < length (take (at + n - at) (drop at s)))
@@ -168,12 +168,12 @@ fewest_fuel (suc f) (suc g) v a b =
     ⊎_elim (λ (h : 10 ≤ v). rw (le-ltb v 10 h, fewest_fuel f g (v / 10) (omega arith) (omega arith)))
     (λ (h : v < 10). rw (lt-ltb v 10 h)) (le_or_lt 10 v)
 
-fewest_one : (v : ℕ) → v < 10 → fewest v ≡ 1
+pub fewest_one : (v : ℕ) → v < 10 → fewest v ≡ 1
 unfolding fewest fewest_from
 fewest_one zero h = refl
 fewest_one (suc v) h = rw (lt-ltb (suc v) 10 h)
 
-fewest_more : (v : ℕ) → 9 < v → fewest v ≡ fewest (v / 10) + 1
+pub fewest_more : (v : ℕ) → 9 < v → fewest v ≡ fewest (v / 10) + 1
 unfolding fewest fewest_from
 fewest_more zero h = absurd (omega arith)
 fewest_more (suc v) h = rw (le-ltb (suc v) 10 h, fewest_fuel v (suc v / 10) (suc v / 10) (omega arith) (omega arith))

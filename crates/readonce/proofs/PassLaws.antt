@@ -20,7 +20,7 @@ use Rattle.values.proofs.FaultLaws.{place_ok}
 use Rattle.fieldvalue.specs.Judged.{RecordJudged}
 use Rattle.items.specs.Identity.{id_at}
 use Rattle.items.specs.Premises.{Identified}
-use Rattle.answers.proofs.OutcomeLaws.{none_of}
+use Rattle.answers.specs.Answer.{refusal}
 use Rattle.answers.specs.declared.refusal.Refusal.{Refusal}
 use Rattle.chart.specs.Read.{next_stage, is_feature, passed_state, first_state, records_fault, read_fault}
 use Rattle.chart.specs.Before.{RecordPassed, start_at}
@@ -189,7 +189,7 @@ module _ {update : Bool} {marks s area t now : List ℕ} {c : Tally} {k at : ℕ
       let fits = so.framed.fits in
       record {
         framed = so.framed.done (omega arith);
-        none = none_of _ (reading_end (so.reading k (le_refl k)) (le_refl k) two) refl;
+        none = ap (λ (r : Refusal). r.code) (sym (reading_end (so.reading k (le_refl k)) (le_refl k) (refusal 0 0 0) two refl));
         tally = so.tally;
         words = so.kept;
       }

@@ -1,5 +1,12 @@
-use Rattle.bothonce.proofs.RaiseLaws.{raised}
+use Rattle.bothonce.proofs.RaiseLaws.{raising_start, raising_on, raising_end}
+use Rattle.std.proofs.Common.{rules}
 use Rattle.bothonce.proofs.raise.raise.Goals as goal
 
+pub loop-i-init : goal.loop-i-init
+loop-i-init c = search (rules, raising_start)
+
+pub loop-i-preserved : goal.loop-i-preserved
+loop-i-preserved c = search (rules, raising_on)
+
 pub returns : goal.returns
-returns c = raised _ _ c.split_at_mut-front.ensures.front_len c.split_at_mut-front.ensures.front c.copy_from_slice.ensures.after
+returns c = search (rules, raising_end)

@@ -1,7 +1,7 @@
 use Rattle.std.proofs.Common.{◌∙◌, arith}
 use Rattle.iso8211.proofs.Promise.{record_in, at_on}
 use Rattle.values.proofs.FaultLaws.{place_none}
-use Rattle.chart.proofs.ReadLaws.{reading_from, reading_layout, reading_value, reading_on, reading_short, reading_end, full_of, passing_of}
+use Rattle.chart.proofs.ReadLaws.{reading_from, reading_layout, reading_value, reading_on, told_short, told_end, full_of, passing_of}
 use Rattle.chart.proofs.read.records_fault.Goals as goal
 
 pub loop-k-init : goal.loop-k-init
@@ -55,7 +55,7 @@ loop-k-preserved c = (
 )
 
 pub returns-then-st-lt2 : goal.returns-then-st-lt2
-returns-then-st-lt2 c = reading_short c.loop-k.invariant.2 c.loop-k-test.false _ (omega arith) c.if-st-lt2.true c.refuse-then-st-lt2.ensures
+returns-then-st-lt2 c = told_short c.loop-k.invariant.2 c.loop-k-test.false _ (omega arith) c.if-st-lt2.true c.refuse-then-st-lt2.ensures
 
 pub returns : goal.returns
-returns c = reading_end c.loop-k.invariant.2 c.loop-k-test.false c.if-st-lt2.false
+returns c = told_end c.loop-k.invariant.2 c.loop-k-test.false c.if-st-lt2.false

@@ -1,8 +1,12 @@
-use Rattle.merge.proofs.WeaveLaws.{settled}
+use Rattle.merge.proofs.WeaveLaws.{settling_start, settling_on, settling_done}
+use Rattle.std.proofs.Common.{rules}
 use Rattle.merge.proofs.weave.settle.Goals as goal
 
+pub loop-i-init : goal.loop-i-init
+loop-i-init c = search (rules, settling_start)
+
+pub loop-i-preserved : goal.loop-i-preserved
+loop-i-preserved c = search (rules, settling_on)
+
 pub returns : goal.returns
-returns c =
-    let split = c.split_at_mut-front in
-    settled c.args.work.now split.result.0.now split.result.1.now _ _ _ c.requires.1 c.requires.0 split.ensures.front_len split.ensures.front
-    split.ensures.back_len c.copy_from_slice.ensures.after
+returns c = search (rules, settling_done)
