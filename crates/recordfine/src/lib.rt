@@ -83,6 +83,7 @@ fn is_whole(due: usize, size: usize, prev: usize) -> bool
 
 // Whether the fields of the record at `at`, whose leader says h, are fine. A list of attributes has the
 // place of the row with which it begins as its stamp, which no list before it had.
+// Its loop is a while: `step_by` would ask at each row whether it is the first.
 fn fields_fine(
     s: &[u8],
     at: usize,
@@ -107,7 +108,6 @@ fn fields_fine(
     let mut stamp = next.stamp;
     let mut due = next.due;
     let mut i = next.row;
-    // A while: `step_by` would ask at each row whether it is the first.
     while i < stop {
         let long = row_fine(s, i, l, p, body, size, due);
         if long == 0 {
